@@ -1,0 +1,134 @@
+-- The parts of the command give its outcome.
+use Rattle.std.proofs.Common.{◌≡◌, ◌⊎◌, ℕ, ◌≤◌, List, [], ◌++◌, length, Option, Some, None, map, refl, sym, ap, subst, ◌∙◌, inl, inr, arith}
+use Rattle.std.specs.Prelude.{IfSome}
+use Rattle.rw_outside.specs.Outside.{Rose, appended, PutsFront}
+use Rattle.pdll_parser.specs.Patterns.{Erasing, IsPatternFile}
+use Rattle.mlir_parse.specs.Module.{IsModule}
+use Rattle.pdllrw.specs.Run.{Course, run}
+use Rattle.pdllrw.specs.declared.driver.Ending.{Ending}
+use Rattle.pdllrw.specs.declared.driver.Ending.TheVariants as endings
+use Rattle.pdllrw.specs.declared.status.Status.{Status}
+use Rattle.pdllrw.specs.declared.status.Status.TheVariants as statuses
+use Rattle.pdllrw.specs.declared.status.BoundKind.TheVariants as bounds
+use Rattle.pdllrw.specs.Words.{command_of}
+use Rattle.pdllrw.specs.Texts.{module_text, log_text}
+use Rattle.pdllrw.specs.Outcome
+use Rattle.pdllrw.specs.Outcome.{Outside, Command, Rewrites, ReadsBadly, HasBadPatterns, HasBadModule, IsCause, IsAnswer, IsWritten, IsCutShort, IsOutcome, line_of, kind_of_ending}
+use Rattle.pdllrw.specs.Stops.{StopsPatterns, StopsModule}
+use Rattle.pdllrw.specs.Written.{Tells, Shows}
+use Rattle.rw_outside.proofs.Put.{appended-nil}
+
+pub rises : (a a' b : ℕ) → a ≤ a' → Rose a' b → Rose a b
+rises a a' b le rose = omega (arith, rose)
+
+module _ (old new : Outside) (words : List (List ℕ)) where
+  -- ---- refusals
+
+  answer_of : (s : Status) → IsCause old new words s → IsAnswer old new words s [] (line_of s)
+  answer_of statuses.Usage cause = (cause, refl, refl)
+  answer_of (statuses.PatternFault f) cause = (cause, refl, refl)
+  answer_of (statuses.ModuleFault f) cause = (cause, refl, refl)
+  answer_of statuses.ReadFault cause = (cause, refl, refl)
+  answer_of statuses.Done cause = absurd cause
+  answer_of (statuses.Bound k) cause = absurd cause
+  answer_of statuses.WriteFault cause = absurd cause
+  answer_of statuses.NoMemory cause = absurd cause
+
+  written_of : (s : Status) → IsCause old new words s → IsWritten old new words s → IsOutcome old new words s
+  written_of statuses.Usage cause w = w
+  written_of (statuses.PatternFault f) cause w = w
+  written_of (statuses.ModuleFault f) cause w = w
+  written_of statuses.ReadFault cause w = w
+  written_of statuses.Done cause w = absurd cause
+  written_of (statuses.Bound k) cause w = absurd cause
+  written_of statuses.WriteFault cause w = absurd cause
+  written_of statuses.NoMemory cause w = absurd cause
+
+  pub refused : (s result : Status) → IsCause old new words s → new.out.bytes ≡ old.out.bytes → Tells old.log new.log (line_of s) s result → IsOutcome old new words result
+  refused s result cause same (inl told) =
+      subst (IsOutcome old new words) (sym told.0) (written_of s cause (record {
+        out = [];
+        log = line_of s;
+        is_answer = answer_of s cause;
+        out_put = same ∙ sym (appended-nil old.out.bytes);
+        log_put = told.1;
+      }))
+  refused s result cause same (inr failed) =
+      subst (IsOutcome old new words) (sym failed.0) (record {
+        status = s;
+        out = [];
+        log = line_of s;
+        is_answer = answer_of s cause;
+        cut = inr (same ∙ sym (appended-nil old.out.bytes), failed.1, failed.2);
+      })
+
+  pub out_of_memory : (result : Status) → new.out.bytes ≡ old.out.bytes → new.log.bytes ≡ old.log.bytes → result ≡ statuses.NoMemory → IsOutcome old new words result
+  out_of_memory result out log is = subst (IsOutcome old new words) (sym is) (out, log)
+
+  -- either a cause, or want of memory
+  pub patterns_stop : (command : Command words) (s : Status) → StopsPatterns (old.files command.patterns) (old.faults command.patterns) (new.faults command.patterns) s → IsCause old new words s ⊎ (s ≡ statuses.NoMemory)
+  patterns_stop command (statuses.PatternFault f) stops = inl (record { command = command; refused = stops })
+  patterns_stop command statuses.ReadFault stops = inl (record { command = command; rose = inl stops })
+  patterns_stop command statuses.NoMemory stops = inr refl
+  patterns_stop command statuses.Done stops = absurd stops
+  patterns_stop command (statuses.Bound k) stops = absurd stops
+  patterns_stop command statuses.Usage stops = absurd stops
+  patterns_stop command (statuses.ModuleFault f) stops = absurd stops
+  patterns_stop command statuses.WriteFault stops = absurd stops
+
+  pub module_stops : (command : Command words) (patterns : List Erasing) → IfSome (old.files command.patterns) (IsPatternFile patterns)
+      → (s : Status) → StopsModule (old.files command.module_file) (old.faults command.module_file) (new.faults command.module_file) s → IsCause old new words s ⊎ (s ≡ statuses.NoMemory)
+  module_stops command patterns are (statuses.ModuleFault f) stops = inl (record { command = command; patterns = patterns; are_patterns = are; refused = stops })
+  module_stops command patterns are statuses.ReadFault stops = inl (record { command = command; rose = inr (patterns, are, stops) })
+  module_stops command patterns are statuses.NoMemory stops = inr refl
+  module_stops command patterns are statuses.Done stops = absurd stops
+  module_stops command patterns are (statuses.Bound k) stops = absurd stops
+  module_stops command patterns are statuses.Usage stops = absurd stops
+  module_stops command patterns are (statuses.PatternFault f) stops = absurd stops
+  module_stops command patterns are statuses.WriteFault stops = absurd stops
+
+  silent_line : line_of statuses.NoMemory ≡ []
+  unfolding line_of
+  silent_line = refl
+
+  pub stopped : (s result : Status) → IsCause old new words s ⊎ (s ≡ statuses.NoMemory) → new.out.bytes ≡ old.out.bytes
+      → Tells old.log new.log (line_of s) s result → (line_of s ≡ [] → result ≡ s) → IsOutcome old new words result
+  stopped s result (inl cause) same tells silent = refused s result cause same tells
+  stopped s result (inr memory) same tells silent =
+      let no_line : line_of s ≡ [] = ap line_of memory ∙ silent_line in
+      let is : result ≡ statuses.NoMemory = silent no_line ∙ memory in
+      out_of_memory result same (log_same tells no_line is) is
+    where
+      log_same : Tells old.log new.log (line_of s) s result → line_of s ≡ [] → result ≡ statuses.NoMemory → new.log.bytes ≡ old.log.bytes
+      log_same (inl told) no_line is = told.1 ∙ ap (appended old.log.bytes) no_line ∙ appended-nil old.log.bytes
+      log_same (inr failed) no_line is = absurd (cc (failed.0, is))
+
+  -- ---- the run
+
+  pub rewritten : (e : Ending) (out log : List ℕ) → Rewrites old.files words e out log → IsAnswer old new words (kind_of_ending e) out log
+  rewritten endings.Converged out log r = r
+  rewritten (endings.Bound h) out log r = (h, r)
+
+  shown_outcome : (e : Ending) → IsWritten old new words (kind_of_ending e) → IsOutcome old new words (kind_of_ending e)
+  shown_outcome endings.Converged w = w
+  shown_outcome (endings.Bound h) w = w
+
+  pub shown : (e : Ending) (out log : List ℕ) (result : Status) → Rewrites old.files words e out log
+      → Shows old.out new.out old.log new.log out log (kind_of_ending e) result → IsOutcome old new words result
+  shown e out log result r (inl all) =
+      subst (IsOutcome old new words) (sym all.0) (shown_outcome e (record { out = out; log = log; is_answer = rewritten e out log r; out_put = all.1; log_put = all.2 }))
+  shown e out log result r (inr (inl cut)) =
+      subst (IsOutcome old new words) (sym cut.0) (record { status = kind_of_ending e; out = out; log = log; is_answer = rewritten e out log r; cut = inl (cut.1, cut.2, cut.3) })
+  shown e out log result r (inr (inr cut)) =
+      subst (IsOutcome old new words) (sym cut.0) (record { status = kind_of_ending e; out = out; log = log; is_answer = rewritten e out log r; cut = inr (cut.1, cut.2, cut.3) })
+
+-- a stop that is told of a later moment
+pub stops_since : (file file' : Option (List ℕ)) (f f1 f2 : ℕ) (s : Status) → file' ≡ file → f ≤ f1 → StopsModule file' f1 f2 s → StopsModule file f f2 s
+stops_since file file' f f1 f2 (statuses.ModuleFault e) same le stops = subst (λ (o : Option (List ℕ)). IfSome o (Outcome.RefusesModule e)) same stops
+stops_since file file' f f1 f2 statuses.ReadFault same le stops = rises f f1 f2 le stops
+stops_since file file' f f1 f2 statuses.NoMemory same le stops = tt
+stops_since file file' f f1 f2 statuses.Done same le stops = absurd stops
+stops_since file file' f f1 f2 (statuses.Bound k) same le stops = absurd stops
+stops_since file file' f f1 f2 statuses.Usage same le stops = absurd stops
+stops_since file file' f f1 f2 (statuses.PatternFault e) same le stops = absurd stops
+stops_since file file' f f1 f2 statuses.WriteFault same le stops = absurd stops

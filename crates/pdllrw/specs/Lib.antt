@@ -1,0 +1,9 @@
+pub mod Run
+pub mod View
+pub mod Texts
+pub mod Words
+pub mod Outcome
+pub mod Stops
+pub mod Written
+pub mod Complete
+pub mod Codes

@@ -1,0 +1,144 @@
+-- What the program answers, by its words and its files.
+use Rattle.std.specs.Prelude.{◌≡◌, ◌<◌, ◌≤◌, ◌⊎◌, ℕ, List, [], ◌++◌, length, codes, Option, Some, None, IfSome}
+use Rattle.rw_outside.specs.Outside.{Rose, appended, PutsFront}
+use Rattle.rw_outside.specs.Puts.{SinkState}
+use Rattle.pdll_parser.specs.Patterns.{Erasing, IsPatternFile}
+use Rattle.pdll_parser.specs.declared.PatFault.{PatFault}
+use Rattle.pdll_parser.specs.declared.PatKind.{PatKind}
+use Rattle.pdll_parser.specs.declared.PatKind.TheVariants as pat_kinds
+use Rattle.mlir_parse.specs.Module.{IsModule}
+use Rattle.mlir_parse.specs.declared.ModFault.{ModFault}
+use Rattle.mlir_parse.specs.declared.ModKind.{ModKind}
+use Rattle.mlir_parse.specs.declared.ModKind.TheVariants as mod_kinds
+use Rattle.mlir_tree.specs.NamedRows.{NamedRow, rows_of}
+use Rattle.pdllrw.specs.Run.{Course, run}
+use Rattle.pdllrw.specs.declared.driver.Hit.{Hit}
+use Rattle.pdllrw.specs.declared.driver.Ending.{Ending}
+use Rattle.pdllrw.specs.declared.driver.Ending.TheVariants as endings
+use Rattle.pdllrw.specs.declared.status.Status.{Status}
+use Rattle.pdllrw.specs.declared.status.Status.TheVariants as statuses
+use Rattle.pdllrw.specs.declared.status.BoundKind.TheVariants as bounds
+use Rattle.pdllrw.specs.Texts.{module_text, log_text}
+use Rattle.pdllrw.specs.Words.{command_of}
+
+-- what is outside at one moment: the files and their counts of faults, and the two sinks
+pub record Outside : Type 0 where
+  pub files : List ℕ → Option (List ℕ)
+  pub faults : List ℕ → ℕ
+  pub out : SinkState
+  pub log : SinkState
+
+-- ---- refusals
+
+abbrev pub RefusesPatternsAs : PatKind → ℕ → List ℕ → Type 0
+RefusesPatternsAs pat_kinds.TooLong at bytes = (67108864 < length bytes) × (at ≡ 67108864)
+RefusesPatternsAs pat_kinds.NotBuilt at bytes = (at ≡ 0) × (length bytes ≤ 67108864) × ((ps : List Erasing) → IsPatternFile ps bytes → ⊥)
+
+-- the bytes are refused with this fault
+abbrev pub RefusesPatterns : PatFault → List ℕ → Type 0
+RefusesPatterns f bytes = RefusesPatternsAs f.kind f.at bytes
+
+abbrev pub RefusesModuleAs : ModKind → ℕ → List ℕ → Type 0
+RefusesModuleAs mod_kinds.TooLong at bytes = (67108864 < length bytes) × (at ≡ 67108864)
+RefusesModuleAs mod_kinds.NotBuilt at bytes = (at ≡ 0) × (length bytes ≤ 67108864) × ((names : List (List ℕ)) → IsModule names bytes → ⊥)
+
+abbrev pub RefusesModule : ModFault → List ℕ → Type 0
+RefusesModule f bytes = RefusesModuleAs f.kind f.at bytes
+
+abbrev pub patterns_line : PatKind → List ℕ
+patterns_line pat_kinds.TooLong = codes "pdllrw: patterns: P1 TooLong\n"
+patterns_line pat_kinds.NotBuilt = codes "pdllrw: patterns: P0 NotBuilt\n"
+
+abbrev pub module_line : ModKind → List ℕ
+module_line mod_kinds.TooLong = codes "pdllrw: module: M1 TooLong\n"
+module_line mod_kinds.NotBuilt = codes "pdllrw: module: M0 NotBuilt\n"
+
+-- the line of a refusal
+unfoldable pub line_of : Status → List ℕ
+line_of statuses.Usage = codes "pdllrw: usage: pdllrw [--max-rewrites N] PATTERNS MODULE or --emit KIND PATTERNS or --generate N\n"
+line_of (statuses.PatternFault f) = patterns_line f.kind
+line_of (statuses.ModuleFault f) = module_line f.kind
+line_of statuses.ReadFault = codes "pdllrw: read fault\n"
+line_of statuses.Done = []
+line_of (statuses.Bound k) = []
+line_of statuses.WriteFault = []
+line_of statuses.NoMemory = []
+
+-- ---- answers
+
+-- the files of the command
+pub record Command (words : List (List ℕ)) : Type 0 where
+  pub patterns : List ℕ
+  pub module_file : List ℕ
+  pub is_command : command_of words ≡ Some (patterns, module_file)
+
+-- the run of the patterns on the module, where the files tell them
+pub record Rewrites (files : List ℕ → Option (List ℕ)) (words : List (List ℕ)) (ending : Ending) (out log : List ℕ) : Type 0 where
+  pub command : Command words
+  pub patterns : List Erasing
+  pub are_patterns : IfSome (files command.patterns) (IsPatternFile patterns)
+  pub names : List (List ℕ)
+  pub is_module : IfSome (files command.module_file) (IsModule names)
+  pub ends : (run 10000 patterns (rows_of names)).ending ≡ ending
+  pub out_is : out ≡ module_text (run 10000 patterns (rows_of names)).rows
+  pub log_is : log ≡ log_text patterns (run 10000 patterns (rows_of names))
+
+-- a count of a file of the command rose, and each file before it was accepted
+pub record ReadsBadly (old new : Outside) (words : List (List ℕ)) : Type 0 where
+  pub command : Command words
+  pub rose : Rose (old.faults command.patterns) (new.faults command.patterns)
+      ⊎ ((patterns : List Erasing) × IfSome (old.files command.patterns) (IsPatternFile patterns) × Rose (old.faults command.module_file) (new.faults command.module_file))
+
+pub record HasBadPatterns (old : Outside) (words : List (List ℕ)) (f : PatFault) : Type 0 where
+  pub command : Command words
+  pub refused : IfSome (old.files command.patterns) (RefusesPatterns f)
+
+pub record HasBadModule (old : Outside) (words : List (List ℕ)) (f : ModFault) : Type 0 where
+  pub command : Command words
+  pub patterns : List Erasing
+  pub are_patterns : IfSome (old.files command.patterns) (IsPatternFile patterns)
+  pub refused : IfSome (old.files command.module_file) (RefusesModule f)
+
+-- why a status that writes a line comes
+abbrev pub IsCause : Outside → Outside → List (List ℕ) → Status → Type 0
+IsCause old new words statuses.Usage = command_of words ≡ None
+IsCause old new words (statuses.PatternFault f) = HasBadPatterns old words f
+IsCause old new words (statuses.ModuleFault f) = HasBadModule old words f
+IsCause old new words statuses.ReadFault = ReadsBadly old new words
+IsCause old new words statuses.Done = ⊥
+IsCause old new words (statuses.Bound k) = ⊥
+IsCause old new words statuses.WriteFault = ⊥
+IsCause old new words statuses.NoMemory = ⊥
+
+-- a status, and what is written with it
+abbrev pub IsAnswer : Outside → Outside → List (List ℕ) → Status → List ℕ → List ℕ → Type 0
+IsAnswer old new words statuses.Done out log = Rewrites old.files words endings.Converged out log
+IsAnswer old new words (statuses.Bound bounds.Rewrites) out log = (h : Hit) × Rewrites old.files words (endings.Bound h) out log
+IsAnswer old new words status out log = IsCause old new words status × (out ≡ []) × (log ≡ line_of status)
+
+-- Both texts were written.
+pub record IsWritten (old new : Outside) (words : List (List ℕ)) (status : Status) : Type 0 where
+  pub out : List ℕ
+  pub log : List ℕ
+  pub is_answer : IsAnswer old new words status out log
+  pub out_put : new.out.bytes ≡ appended old.out.bytes out
+  pub log_put : new.log.bytes ≡ appended old.log.bytes log
+
+-- A sink failed. Where it was `out`, `log` got nothing.
+pub record IsCutShort (old new : Outside) (words : List (List ℕ)) : Type 0 where
+  pub status : Status
+  pub out : List ℕ
+  pub log : List ℕ
+  pub is_answer : IsAnswer old new words status out log
+  pub cut : (PutsFront old.out.bytes new.out.bytes out × (new.log.bytes ≡ old.log.bytes) × Rose old.out.faults new.out.faults)
+      ⊎ ((new.out.bytes ≡ appended old.out.bytes out) × PutsFront old.log.bytes new.log.bytes log × Rose old.log.faults new.log.faults)
+
+-- what the program does, by the status that it answers
+abbrev pub IsOutcome : Outside → Outside → List (List ℕ) → Status → Type 0
+IsOutcome old new words statuses.WriteFault = IsCutShort old new words
+IsOutcome old new words statuses.NoMemory = (new.out.bytes ≡ old.out.bytes) × (new.log.bytes ≡ old.log.bytes)
+IsOutcome old new words status = IsWritten old new words status
+
+abbrev pub kind_of_ending : Ending → Status
+kind_of_ending endings.Converged = statuses.Done
+kind_of_ending (endings.Bound h) = statuses.Bound bounds.Rewrites

@@ -1,0 +1,20 @@
+// What follows from the outcome of the command, and from the run.
+ghost use Rattle.std.specs.Prelude.{◌≡◌, ℕ, List};
+ghost use Rattle.mlir_tree.specs.NamedRows.{NamedRow};
+ghost use Rattle.pdll_parser.specs.Patterns.{Erasing};
+ghost use Rattle.pdllrw.specs.declared.driver.Ending.TheVariants as endings;
+ghost use Rattle.pdllrw.specs.declared.status.Status.{Status as AnyStatus};
+ghost use Rattle.pdllrw.specs.Outcome.{Outside, IsOutcome};
+ghost use Rattle.pdllrw.specs.Complete.{GoesWell, Succeeds};
+ghost use Rattle.pdllrw.specs.Run.{run, NoneMatches};
+
+/// Where the files are accepted and nothing fails, the command rewrites the module, unless memory runs out.
+pub fn completes()
+    ensures { (old new : Outside) (words : List (List ℕ)) (s : AnyStatus) → GoesWell old new words → IsOutcome old new words s → Succeeds s }
+{}
+
+/// Where a run converged, no pattern matches at any operation of the module that it left, the module itself included.
+#[tactic(auto, using(crate::proofs::Converged::converged))]
+pub fn converged()
+    ensures { (bound : ℕ) (patterns : List Erasing) (rows : List NamedRow) → (run bound patterns rows).ending ≡ endings.Converged → NoneMatches patterns (run bound patterns rows).rows }
+{}

@@ -1,0 +1,43 @@
+ghost use Rattle.std.specs.Prelude.{◌≡◌};
+
+use mlir_parse::ModFault;
+use pdll_parser::PatFault;
+
+/// Which limit ended a run.
+#[derive(Clone, Copy, Debug, PartialEq, Eq)]
+pub enum BoundKind {
+    Rewrites,
+}
+
+/// How the program ended.
+#[derive(Clone, Copy, Debug, PartialEq, Eq)]
+pub enum Status {
+    Done,
+    Bound(BoundKind),
+    Usage,
+    PatternFault(PatFault),
+    ModuleFault(ModFault),
+    ReadFault,
+    WriteFault,
+    NoMemory,
+}
+
+impl Status {
+    ghost use Rattle.pdllrw.specs.Codes.{code_of};
+
+    /// The number with which the process ends.
+    pub fn code(&self) -> u8
+        ensures { result ≡ code_of self.now }
+    {
+        match self {
+            Status::Done => 0,
+            Status::Bound(_) => 1,
+            Status::Usage => 2,
+            Status::PatternFault(_) => 3,
+            Status::ModuleFault(_) => 4,
+            Status::ReadFault => 6,
+            Status::WriteFault => 7,
+            Status::NoMemory => 8,
+        }
+    }
+}

@@ -1,0 +1,4 @@
+pub mod Outside
+pub mod Puts
+pub mod MemSink
+pub mod MemHost

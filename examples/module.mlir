@@ -1,0 +1,6 @@
+"t.start"() : () -> ()
+"debug.print"() : () -> ()
+"t.work"() : () -> ()
+"t.dead"() : () -> ()
+"debug.print"() : () -> ()
+"t.stop"() : () -> ()
