@@ -6,7 +6,8 @@ use Rattle.std.proofs.lemmas.Bool.{false≢true, eqb-true}
 use Rattle.std.proofs.lemmas.Bool.Decides.{nat_tests}
 use Rattle.std.proofs.lemmas.List.Folds.{length-prefix_len}
 use Rattle.std.specs.Global.{Vec}
-use Rattle.text_marks.specs.Bytes.{is_space, is_name_byte}
+use Rattle.text_scan.specs.Bytes.{is_space}
+use Rattle.text_marks.specs.Bytes.{is_op_name_byte}
 use Rattle.text_marks.specs.Reading.{◌>>=◌, after_gap, behind, behind_marks}
 use Rattle.text_marks.specs.Spelling.{IsGap, IsMark, AreMarks, Stops}
 use Rattle.text_marks.proofs.Laws.{bind_some, front_passes, rest_stops, len_is, gap_takes, gap_again, all_gap, gap_all, behind_takes, behind_again, marks_take, marks_again, mark_takes, mark_again}
@@ -15,10 +16,10 @@ use Rattle.text_marks.proofs.Items.{Reads, ReadsOn, one_more}
 use Rattle.mlir_parse.specs.Module.{op_marks, IsOpName, quoted, IsOp, IsModule, texts}
 use Rattle.mlir_parse.specs.Reading.{quote, op_at}
 
-name_is : (text : List ℕ) → eqb (prefix_len is_name_byte text) 0 ≡ false → IsOpName (take (prefix_len is_name_byte text) text)
-name_is text e = named (prefix_len is_name_byte text) text e (length-prefix_len is_name_byte text) (front_passes is_name_byte text)
+name_is : (text : List ℕ) → eqb (prefix_len is_op_name_byte text) 0 ≡ false → IsOpName (take (prefix_len is_op_name_byte text) text)
+name_is text e = named (prefix_len is_op_name_byte text) text e (length-prefix_len is_op_name_byte text) (front_passes is_op_name_byte text)
   where
-    named : (n : ℕ) (text : List ℕ) → eqb n 0 ≡ false → length (take n text) ≡ n → AllByRecursion (λ c. is_name_byte c ≡ true) (take n text) → IsOpName (take n text)
+    named : (n : ℕ) (text : List ℕ) → eqb n 0 ≡ false → length (take n text) ≡ n → AllByRecursion (λ c. is_op_name_byte c ≡ true) (take n text) → IsOpName (take n text)
     named zero text e len passes = absurd (false≢true (sym e ∙ grind (arith, nat_tests)))
     named (suc n) [] e len passes = absurd (omega (arith, len))
     named (suc n) (b ∷ bs) e len passes = passes
@@ -30,8 +31,8 @@ guard_not false x y e = (refl, cc)
 pub op_takes : (bytes name rest : List ℕ) → op_at bytes ≡ Some (name, rest) → IsOp name bytes rest
 unfolding op_at
 op_takes bytes name rest e =
-    let a = bind_some (behind quote (after_gap bytes)) (λ text. behind quote (drop (prefix_len is_name_byte text) text) >>= λ mid. behind_marks op_marks mid >>= λ rest'. cond (eqb (prefix_len is_name_byte text) 0) None (Some (take (prefix_len is_name_byte text) text, rest'))) (name, rest) e in
-    let len = prefix_len is_name_byte a.0 in
+    let a = bind_some (behind quote (after_gap bytes)) (λ text. behind quote (drop (prefix_len is_op_name_byte text) text) >>= λ mid. behind_marks op_marks mid >>= λ rest'. cond (eqb (prefix_len is_op_name_byte text) 0) None (Some (take (prefix_len is_op_name_byte text) text, rest'))) (name, rest) e in
+    let len = prefix_len is_op_name_byte a.0 in
     let b = bind_some (behind quote (drop len a.0)) (λ mid. behind_marks op_marks mid >>= λ rest'. cond (eqb len 0) None (Some (take len a.0, rest'))) (name, rest) a.2 in
     let c = bind_some (behind_marks op_marks b.0) (λ rest'. cond (eqb len 0) None (Some (take len a.0, rest'))) (name, rest) b.2 in
     let g = guard_not (eqb len 0) (take len a.0, c.0) (name, rest) c.2 in
@@ -47,7 +48,7 @@ op_takes bytes name rest e =
     } in
     subst (λ (x : List ℕ × List ℕ). IsOp x.0 bytes x.1) g.1 made
 
-name_passes : (name : List ℕ) → IsOpName name → AllByRecursion (λ c. is_name_byte c ≡ true) name
+name_passes : (name : List ℕ) → IsOpName name → AllByRecursion (λ c. is_op_name_byte c ≡ true) name
 name_passes [] is = tt
 name_passes (b ∷ bs) is = is
 
@@ -61,7 +62,7 @@ op_again bytes name rest is =
     let m = is.is_mark in
     let regrouped : quoted name ++ is.mid ≡ 34 ∷ (name ++ (quote ++ is.mid)) = ap (λ (t : List ℕ). 34 ∷ t) (append_assoc name quote is.mid) in
     let text : after_gap bytes ≡ quote ++ (name ++ (quote ++ is.mid)) = ap after_gap m.parts ∙ gap_again m.gap (quoted name ++ is.mid) m.is_gap refl ∙ regrouped in
-    let len : prefix_len is_name_byte (name ++ (quote ++ is.mid)) ≡ length name = len_is is_name_byte name (quote ++ is.mid) (name_passes name is.is_name) refl in
+    let len : prefix_len is_op_name_byte (name ++ (quote ++ is.mid)) ≡ length name = len_is is_op_name_byte name (quote ++ is.mid) (name_passes name is.is_name) refl in
     rw (text, behind_again quote (name ++ (quote ++ is.mid)), len, drop_at name (quote ++ is.mid) (length name) refl, behind_again quote is.mid, marks_again op_marks is.mid rest (refl, (refl, (refl, (refl, (refl, (refl, (refl, (refl, tt)))))))) is.are_marks, name_long name is.is_name, take_at name (quote ++ is.mid) (length name) refl) refl
 
 marks_shrink : (marks : List (List ℕ)) (bytes rest : List ℕ) → AreMarks marks bytes rest → length rest ≤ length bytes

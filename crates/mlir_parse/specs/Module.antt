@@ -2,7 +2,7 @@
 use Rattle.std.specs.Prelude.{◌≡◌, ◌≤◌, ℕ, List, [], ◌∷◌, ◌++◌, length, true, codes, map, Vec}
 use Rattle.std.specs.List.{AllByRecursion}
 use Rattle.std.specs.declared.alloc.Global.{Global}
-use Rattle.text_marks.specs.Bytes.{is_name_byte}
+use Rattle.text_marks.specs.Bytes.{is_op_name_byte}
 use Rattle.text_marks.specs.Items.{AreItems}
 use Rattle.text_marks.specs.Spelling.{IsMark, AreMarks}
 
@@ -12,7 +12,7 @@ op_marks = codes "(" ∷ codes ")" ∷ codes ":" ∷ codes "(" ∷ codes ")" ∷
 -- one or more letters, digits, underscores and dots
 abbrev pub IsOpName : List ℕ → Type 0
 IsOpName [] = ⊥
-IsOpName (b ∷ bs) = AllByRecursion (λ c. is_name_byte c ≡ true) (b ∷ bs)
+IsOpName (b ∷ bs) = AllByRecursion (λ c. is_op_name_byte c ≡ true) (b ∷ bs)
 
 abbrev pub quoted : List ℕ → List ℕ
 quoted name = 34 ∷ name ++ 34 ∷ []

@@ -6,7 +6,7 @@ ghost use Rattle.std.specs.Option.{option_map};
 ghost use Rattle.mlir_parse.specs.Module.{IsModule, texts};
 ghost use Rattle.mlir_parse.specs.Reading.{op_at};
 
-use mlir_tree::Refusal;
+use mlir_tree::refusal::Refusal;
 use std::alloc::Global;
 use text_marks::{after_gap, behind, behind_marks, name_len};
 

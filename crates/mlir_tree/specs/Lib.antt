@@ -1,1 +1,16 @@
-pub mod NamedRows
+pub mod Tree
+pub mod Order
+pub mod Codes
+pub mod Measure
+pub mod Range
+pub mod TyView
+pub mod TyFalls
+pub mod TyKeys
+pub mod AttrView
+pub mod AttrFalls
+pub mod AttrKeys
+pub mod Fields
+pub mod Module
+pub mod WellFormed
+pub mod Edits
+pub mod Laws

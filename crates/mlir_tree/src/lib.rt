@@ -1,6 +1,18 @@
-//! What every layer speaks of: refusals, and a module as the list of its operations.
+//! The data of MLIR modules: types, attributes, values, and operations as rows in text order.
 #![tactic(auto)]
 
-mod refusal;
-
-pub use refusal::Refusal;
+pub mod attr;
+pub mod attr_keys;
+pub mod bad_use;
+pub mod laws;
+pub mod number;
+pub mod refusal;
+pub mod row;
+pub mod rows;
+pub mod sign;
+#[cfg(test)]
+mod tests;
+pub mod text;
+pub mod ty;
+pub mod ty_keys;
+pub mod value;

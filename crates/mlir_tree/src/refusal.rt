@@ -1,3 +1,5 @@
+//! Why a call gave nothing.
+
 ghost use Rattle.std.specs.Prelude.{◌≡◌};
 ghost use Rattle.mlir_tree.specs.declared.refusal.Refusal.TheVariants.{NoMemory};
 

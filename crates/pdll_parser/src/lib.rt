@@ -10,7 +10,7 @@ ghost use Rattle.text_marks.specs.Items.{AreItems};
 ghost use Rattle.pdll_parser.specs.Reading.{pattern_at};
 ghost use Rattle.pdll_parser.specs.View.{view, views, seen};
 
-use mlir_tree::Refusal;
+use mlir_tree::refusal::Refusal;
 use std::alloc::{AllocError, Global};
 use text_marks::{after_gap, behind_marks, behind_word, word_at};
 

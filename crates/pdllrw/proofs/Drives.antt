@@ -10,7 +10,7 @@ use Rattle.mlir_parse.specs.Module.{texts}
 use Rattle.pdllrw.specs.declared.driver.Hit.{Hit}
 use Rattle.pdllrw.specs.declared.driver.Ending.{Ending}
 use Rattle.pdllrw.specs.declared.driver.Ending.TheVariants.{Converged, Bound}
-use Rattle.mlir_tree.specs.NamedRows.{NamedRow, numbered, removed, module_row, rows_of}
+use Rattle.pdllrw.specs.NamedRows.{NamedRow, numbered, removed, module_row, rows_of}
 use Rattle.pdllrw.specs.Run.{best, first_hit, Course, stopped, after_step, run}
 
 -- ---- the run's equations

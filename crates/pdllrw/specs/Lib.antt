@@ -1,3 +1,4 @@
+pub mod NamedRows
 pub mod Run
 pub mod View
 pub mod Texts

@@ -10,7 +10,7 @@ use Rattle.mlir_parse.specs.Module.{IsModule}
 use Rattle.mlir_parse.specs.declared.ModFault.{ModFault}
 use Rattle.mlir_parse.specs.declared.ModKind.{ModKind}
 use Rattle.mlir_parse.specs.declared.ModKind.TheVariants as mod_kinds
-use Rattle.mlir_tree.specs.NamedRows.{NamedRow, rows_of}
+use Rattle.pdllrw.specs.NamedRows.{NamedRow, rows_of}
 use Rattle.pdllrw.specs.Run.{Course, run}
 use Rattle.pdllrw.specs.declared.driver.Hit.{Hit}
 use Rattle.pdllrw.specs.declared.driver.Ending.{Ending}

@@ -7,7 +7,7 @@ use Rattle.pdll_parser.specs.Patterns.{Erasing}
 use Rattle.pdllrw.specs.declared.driver.Hit.{Hit}
 use Rattle.pdllrw.specs.declared.driver.Ending.{Ending}
 use Rattle.pdllrw.specs.declared.driver.Ending.TheVariants.{Converged, Bound}
-use Rattle.mlir_tree.specs.NamedRows.{NamedRow, removed}
+use Rattle.pdllrw.specs.NamedRows.{NamedRow, removed}
 
 -- the place of the first declared pattern that names this operation
 abbrev pub best : List Erasing → List ℕ → Option ℕ

@@ -6,7 +6,7 @@ use Rattle.pdll_parser.specs.Patterns.{Erasing}
 use Rattle.pdllrw.specs.declared.driver.Hit.{Hit}
 use Rattle.pdllrw.specs.declared.driver.Ending.{Ending}
 use Rattle.pdllrw.specs.declared.driver.Ending.TheVariants.{Converged, Bound}
-use Rattle.mlir_tree.specs.NamedRows.{NamedRow}
+use Rattle.pdllrw.specs.NamedRows.{NamedRow}
 use Rattle.pdllrw.specs.Run.{Course}
 
 -- "name"() : () -> (), two spaces deep

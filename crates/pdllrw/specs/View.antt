@@ -1,7 +1,7 @@
 use Rattle.std.specs.Prelude.{List, map}
 use Rattle.pdllrw.specs.declared.driver.Row.{Row}
 use Rattle.pdllrw.specs.declared.driver.Run.{Run}
-use Rattle.mlir_tree.specs.NamedRows.{NamedRow}
+use Rattle.pdllrw.specs.NamedRows.{NamedRow}
 use Rattle.pdllrw.specs.Run.{Course}
 
 abbrev pub seen_row : Row → NamedRow

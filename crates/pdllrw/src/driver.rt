@@ -2,7 +2,7 @@
 ghost use Rattle.std.specs.Prelude.{◌≡◌, ◌+◌, ◌-◌, ◌≤◌, ◌<◌, ◌^◌, ◌++◌, ℕ, List, length, IfOk, IfSome, OnOk, Option, None, codes};
 ghost use Rattle.pdll_parser.specs.View.{views};
 ghost use Rattle.mlir_parse.specs.Module.{texts};
-ghost use Rattle.mlir_tree.specs.NamedRows.{numbered, rows_of};
+ghost use Rattle.pdllrw.specs.NamedRows.{numbered, rows_of};
 ghost use Rattle.pdllrw.specs.Run.{best, run};
 ghost use Rattle.pdllrw.specs.View.{seen_rows, seen_run};
 

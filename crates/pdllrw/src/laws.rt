@@ -1,6 +1,6 @@
 // What follows from the outcome of the command, and from the run.
 ghost use Rattle.std.specs.Prelude.{◌≡◌, ℕ, List};
-ghost use Rattle.mlir_tree.specs.NamedRows.{NamedRow};
+ghost use Rattle.pdllrw.specs.NamedRows.{NamedRow};
 ghost use Rattle.pdll_parser.specs.Patterns.{Erasing};
 ghost use Rattle.pdllrw.specs.declared.driver.Ending.TheVariants as endings;
 ghost use Rattle.pdllrw.specs.declared.status.Status.{Status as AnyStatus};

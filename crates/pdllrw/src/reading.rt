@@ -7,7 +7,7 @@ ghost use Rattle.pdllrw.specs.Stops.{StopsPatterns, StopsModule};
 
 use crate::status::Status;
 use mlir_parse::{ModFault, ModKind, parse_module};
-use mlir_tree::Refusal;
+use mlir_tree::refusal::Refusal;
 use pdll_parser::{PatFault, PatKind, Pattern, parse_patterns};
 use rw_outside::{Host, TakeErr, take_all};
 use std::alloc::Global;

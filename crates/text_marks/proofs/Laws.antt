@@ -7,7 +7,7 @@ use Rattle.std.proofs.lemmas.List.{take_at, drop_at}
 use Rattle.std.proofs.lemmas.Slice.Eq.{bytes_eq-Decides}
 use Rattle.std.proofs.lemmas.Bool.{false≢true}
 use Rattle.std.proofs.lemmas.Bool.Decides.{nat_tests}
-use Rattle.text_marks.specs.Bytes.{is_space, is_word_start, is_word_byte}
+use Rattle.text_scan.specs.Bytes.{is_space, is_word_start, is_name_byte}
 use Rattle.text_marks.specs.Reading.{◌>>=◌, after_gap, behind, behind_marks, starts_word, word_at, behind_word}
 use Rattle.text_marks.specs.Spelling.{IsGap, IsMark, AreMarks, IsWordText, Stops, IsWord}
 
@@ -117,18 +117,18 @@ marks_again (m ∷ ms) bytes rest dense are = rw (mark_again m bytes are.0 dense
 
 -- ---- words
 
-word_text : (text : List ℕ) → starts_word text ≡ true → IsWordText (take (prefix_len is_word_byte text) text)
+word_text : (text : List ℕ) → starts_word text ≡ true → IsWordText (take (prefix_len is_name_byte text) text)
 word_text [] e = absurd (false≢true e)
 word_text (b ∷ bs) e =
-    let passes : is_word_byte b ≡ true = rw e refl in
-    let n : prefix_len is_word_byte (b ∷ bs) ≡ suc (prefix_len is_word_byte bs) = ap (λ (t : Bool). cond t (1 + prefix_len is_word_byte bs) 0) passes ∙ omega arith in
-    rw n (e, front_passes is_word_byte bs)
+    let passes : is_name_byte b ≡ true = rw e refl in
+    let n : prefix_len is_name_byte (b ∷ bs) ≡ suc (prefix_len is_name_byte bs) = ap (λ (t : Bool). cond t (1 + prefix_len is_name_byte bs) 0) passes ∙ omega arith in
+    rw n (e, front_passes is_name_byte bs)
 
 pub word_takes : (bytes word rest : List ℕ) → word_at bytes ≡ Some (word, rest) → IsWord word bytes rest
 unfolding word_at
 word_takes bytes word rest e =
     let text = after_gap bytes in
-    let len = prefix_len is_word_byte text in
+    let len = prefix_len is_name_byte text in
     let g = guard_some (starts_word text) (take len text, drop len text) (word, rest) e in
     let taken = gap_takes bytes in
     let made : IsWord (take len text) bytes (drop len text) = record {
@@ -138,11 +138,11 @@ word_takes bytes word rest e =
         is_gap = taken.0;
         parts = taken.1 ∙ ap (λ (t : List ℕ). take (prefix_len is_space bytes) bytes ++ t) (sym (take-append-drop len text));
       };
-      ends = rest_stops is_word_byte text;
+      ends = rest_stops is_name_byte text;
     } in
     subst (λ (x : List ℕ × List ℕ). IsWord x.0 bytes x.1) g.1 made
 
-is_word_text : (word : List ℕ) → IsWordText word → Passes is_word_byte word
+is_word_text : (word : List ℕ) → IsWordText word → Passes is_name_byte word
 is_word_text [] is = tt
 is_word_text (b ∷ bs) is = (rw is.0 refl, is.1)
 
@@ -162,7 +162,7 @@ pub word_again : (bytes word rest : List ℕ) → IsWord word bytes rest → wor
 unfolding word_at
 word_again bytes word rest is =
     let text : after_gap bytes ≡ word ++ rest = ap after_gap is.is_mark.parts ∙ gap_again is.is_mark.gap (word ++ rest) is.is_mark.is_gap (dense_stops word rest (word_dense word is.is_text)) in
-    let len : prefix_len is_word_byte (word ++ rest) ≡ length word = len_is is_word_byte word rest (is_word_text word is.is_text) is.ends in
+    let len : prefix_len is_name_byte (word ++ rest) ≡ length word = len_is is_name_byte word rest (is_word_text word is.is_text) is.ends in
     rw (text, word_starts word rest is.is_text, len, take_at word rest (length word) refl, drop_at word rest (length word) refl) refl
 
 pub behind_word_takes : (word bytes rest : List ℕ) → behind_word word bytes ≡ Some rest → IsWord word bytes rest

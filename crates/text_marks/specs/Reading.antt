@@ -2,7 +2,7 @@
 use Rattle.std.specs.Prelude.{ℕ, List, [], ◌∷◌, length, take, drop, Option, Some, None, Bool, true, false, option_and_then, if◌then◌else◌}
 use Rattle.std.specs.List.{prefix_len}
 use Rattle.std.specs.Str.{bytes_eq}
-use Rattle.text_marks.specs.Bytes.{is_space, is_word_start, is_word_byte}
+use Rattle.text_scan.specs.Bytes.{is_space, is_word_start, is_name_byte}
 
 infixl 10 ◌>>=◌
 abbrev pub ◌>>=◌ : {A B : Type 0} → Option A → (A → Option B) → Option B
@@ -31,7 +31,7 @@ starts_word (b ∷ bs) = is_word_start b
 unfoldable pub word_at : List ℕ → Option (List ℕ × List ℕ)
 word_at bytes =
     let text = after_gap bytes in
-    let len = prefix_len is_word_byte text in
+    let len = prefix_len is_name_byte text in
     if starts_word text then Some (take len text, drop len text) else None
 
 -- behind this word

@@ -1,7 +1,7 @@
 -- How texts are spelled: the first bytes are the text and then the second ones.
 use Rattle.std.specs.Prelude.{◌≡◌, ℕ, List, [], ◌∷◌, ◌++◌, Bool, true, false, IsTrue, All}
 use Rattle.std.specs.List.{AllByRecursion}
-use Rattle.text_marks.specs.Bytes.{is_space, is_word_start, is_word_byte}
+use Rattle.text_scan.specs.Bytes.{is_space, is_word_start, is_name_byte}
 
 -- any number of spaces
 abbrev pub IsGap : List ℕ → Type 0
@@ -21,7 +21,7 @@ AreMarks (m ∷ ms) bytes rest = (mid : List ℕ) × IsMark m bytes mid × AreMa
 -- a letter or an underscore, then letters, digits and underscores
 abbrev pub IsWordText : List ℕ → Type 0
 IsWordText [] = ⊥
-IsWordText (b ∷ bs) = (is_word_start b ≡ true) × AllByRecursion (λ c. is_word_byte c ≡ true) bs
+IsWordText (b ∷ bs) = (is_word_start b ≡ true) × AllByRecursion (λ c. is_name_byte c ≡ true) bs
 
 -- the first byte does not pass, if there is one
 abbrev pub Stops : (ℕ → Bool) → List ℕ → Type 0
@@ -32,4 +32,4 @@ Stops p (b ∷ bs) = p b ≡ false
 pub record IsWord (word bytes rest : List ℕ) : Type 0 where
   pub is_text : IsWordText word
   pub is_mark : IsMark word bytes rest
-  pub ends : Stops is_word_byte rest
+  pub ends : Stops is_name_byte rest

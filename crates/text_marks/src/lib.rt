@@ -4,43 +4,25 @@
 ghost use Rattle.std.specs.Prelude.{◌≡◌, ◌≤◌, ℕ, List, length, take, drop, map, Option, option_copied};
 ghost use Rattle.std.specs.Option.{option_map};
 ghost use Rattle.std.specs.List.{prefix_len};
-ghost use Rattle.text_marks.specs.Bytes.{is_space, is_word_start, is_word_byte, is_name_byte};
+ghost use Rattle.text_scan.specs.Bytes.{is_space, is_word_start, is_name_byte};
+ghost use Rattle.text_marks.specs.Bytes.{is_op_name_byte};
 ghost use Rattle.text_marks.specs.Reading.{after_gap, behind, behind_marks, word_at, behind_word};
 
-/// A space, a tab, a line feed or a carriage return.
-pub fn is_space(b: u8) -> bool
-    ensures { result ≡ is_space b }
-{
-    b == b' ' || b == b'\t' || b == b'\n' || b == b'\r'
-}
+use text_scan::bytes::{is_name_byte, is_space, is_word_start};
 
-/// A letter or an underscore.
-pub fn is_word_start(b: u8) -> bool
-    ensures { result ≡ is_word_start b }
+/// A letter, a digit, an underscore or a dot.
+pub fn is_op_name_byte(b: u8) -> bool
+    ensures { result ≡ is_op_name_byte b }
 {
-    b.is_ascii_lowercase() || b.is_ascii_uppercase() || b == b'_'
-}
-
-/// A letter, a digit or an underscore.
-pub fn is_word_byte(b: u8) -> bool
-    ensures { result ≡ is_word_byte b }
-{
-    is_word_start(b) || b.is_ascii_digit()
-}
-
-/// A byte of a word, or a dot.
-pub fn is_name_byte(b: u8) -> bool
-    ensures { result ≡ is_name_byte b }
-{
-    is_word_byte(b) || b == b'.'
+    is_name_byte(b) || b == b'.'
 }
 
 /// How many bytes of a name stand at the front.
 pub fn name_len(bytes: &[u8]) -> usize
-    ensures value { result ≡ prefix_len is_name_byte bytes.now }
+    ensures value { result ≡ prefix_len is_op_name_byte bytes.now }
     ensures within { result ≤ length bytes.now }
 {
-    bytes.iter().take_while(|b| is_name_byte(**b)).count()
+    bytes.iter().take_while(|b| is_op_name_byte(**b)).count()
 }
 
 /// How many spaces stand at the front.
@@ -52,10 +34,10 @@ fn gap_len(bytes: &[u8]) -> usize
 }
 
 fn word_len(bytes: &[u8]) -> usize
-    ensures value { result ≡ prefix_len is_word_byte bytes.now }
+    ensures value { result ≡ prefix_len is_name_byte bytes.now }
     ensures within { result ≤ length bytes.now }
 {
-    bytes.iter().take_while(|b| is_word_byte(**b)).count()
+    bytes.iter().take_while(|b| is_name_byte(**b)).count()
 }
 
 /// The bytes behind the spaces at the front.

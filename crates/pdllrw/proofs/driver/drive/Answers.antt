@@ -5,7 +5,7 @@ use Rattle.pdll_parser.specs.View.{views}
 use Rattle.mlir_parse.specs.Module.{texts}
 use Rattle.pdllrw.specs.declared.driver.Hit.{Hit}
 use Rattle.pdllrw.specs.declared.driver.Row.{Row}
-use Rattle.mlir_tree.specs.NamedRows.{NamedRow, numbered, module_row}
+use Rattle.pdllrw.specs.NamedRows.{NamedRow, numbered, module_row}
 use Rattle.pdllrw.specs.Run.{best}
 use Rattle.pdllrw.specs.View.{seen_row, seen_rows}
 use Rattle.pdllrw.proofs.Drives.{Drives, starts, passes, takes_step, stops_at_bound, converges}

@@ -5,7 +5,7 @@ use Rattle.pdll_parser.specs.Patterns.{IsPatternFile, are_allowed}
 use Rattle.pdll_parser.specs.View.{views}
 use Rattle.mlir_parse.specs.Module.{IsModule, texts}
 use Rattle.pdllrw.specs.Run.{Course, run}
-use Rattle.mlir_tree.specs.NamedRows.{rows_of}
+use Rattle.pdllrw.specs.NamedRows.{rows_of}
 use Rattle.pdllrw.specs.View.{seen_run}
 use Rattle.pdllrw.specs.declared.status.Status.TheVariants as statuses
 use Rattle.pdllrw.specs.Texts.{module_text, log_text}

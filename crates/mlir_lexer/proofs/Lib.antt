@@ -1,0 +1,5 @@
+pub mod Classes
+pub mod Covers
+pub mod Sound
+pub mod Places
+pub mod BodyLaws

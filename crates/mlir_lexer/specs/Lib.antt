@@ -1,0 +1,4 @@
+pub mod Forms
+pub mod Scan
+pub mod Tokens
+pub mod Body

@@ -1,0 +1,12 @@
+#![tactic(auto)]
+
+pub mod body;
+mod scan;
+pub mod token;
+
+pub use body::{BodyFault, body_end};
+pub use scan::next_token;
+pub use token::{LexFault, Token, TokenKind};
+
+#[cfg(test)]
+mod tests;

@@ -1,0 +1,9 @@
+pub mod ListEnds
+pub mod Examples
+pub mod Visibility
+pub mod Substitution
+pub mod Insertion
+pub mod Removal
+pub mod OrderLaws
+pub mod Nesting
+pub mod NestedByTest

@@ -1,0 +1,12 @@
+use Rattle.std.proofs.Common.{◌∙◌, inl, inr, arith}
+use Rattle.pdll_syntax.specs.Equal.{decl_eq}
+use Rattle.pdll_syntax.proofs.Ends.{same_end}
+use Rattle.pdll_syntax.proofs.file.same_decls.Goals as goal
+use Rattle.pdll_syntax.proofs.file.same_decls.Goals.{then-loop-at-test+else-at-b, else-loop-at-test}
+
+pub returns : goal.returns
+returns c =
+    elim c.loop-at-test.branch [
+      | then-loop-at-test+else-at-b w ↦ same_end decl_eq c.args.a.now c.args.b.now c.loop-at.at (omega arith) (omega arith) (inr (omega arith)) ∙ c.loop-at.invariant.2
+      | else-loop-at-test w ↦ same_end decl_eq c.args.a.now c.args.b.now c.loop-at.at (omega arith) (omega arith) (inl (omega arith)) ∙ c.loop-at.invariant.2
+    ]

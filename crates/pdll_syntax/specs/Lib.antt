@@ -1,0 +1,12 @@
+pub mod ExprTree
+pub mod ExprCode
+pub mod ExprSize
+pub mod ExprView
+pub mod ExprFalls
+pub mod StmtTree
+pub mod StmtCode
+pub mod StmtSize
+pub mod StmtView
+pub mod StmtFalls
+pub mod Faults
+pub mod Equal

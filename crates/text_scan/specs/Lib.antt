@@ -1,0 +1,4 @@
+pub mod Bytes
+pub mod Longest
+pub mod Gaps
+pub mod Strings
