@@ -2,8 +2,8 @@
 use Rattle.std.proofs.Common.{◌≡◌, ◌⊎◌, ℕ, ◌≤◌, List, [], ◌++◌, length, Option, Some, None, map, refl, sym, ap, subst, ◌∙◌, inl, inr, arith}
 use Rattle.std.specs.Prelude.{IfSome}
 use Rattle.rw_outside.specs.Outside.{Rose, appended, PutsFront}
-use Rattle.pdll_parser.specs.Patterns.{Erasing, IsPatternFile}
-use Rattle.mlir_parse.specs.Module.{IsModule}
+use Rattle.pdll_parser.specs.Patterns.{Erasing}
+use Rattle.pdllrw.specs.Accepted.{AcceptsPatterns, AcceptsModule}
 use Rattle.pdllrw.specs.Run.{Course, run}
 use Rattle.pdllrw.specs.declared.driver.Ending.{Ending}
 use Rattle.pdllrw.specs.declared.driver.Ending.TheVariants as endings
@@ -76,7 +76,7 @@ module _ (old new : Outside) (words : List (List ℕ)) where
   patterns_stop command (statuses.ModuleFault f) stops = absurd stops
   patterns_stop command statuses.WriteFault stops = absurd stops
 
-  pub module_stops : (command : Command words) (patterns : List Erasing) → IfSome (old.files command.patterns) (IsPatternFile patterns)
+  pub module_stops : (command : Command words) (patterns : List Erasing) → IfSome (old.files command.patterns) (AcceptsPatterns patterns)
       → (s : Status) → StopsModule (old.files command.module_file) (old.faults command.module_file) (new.faults command.module_file) s → IsCause old new words s ⊎ (s ≡ statuses.NoMemory)
   module_stops command patterns are (statuses.ModuleFault f) stops = inl (record { command = command; patterns = patterns; are_patterns = are; refused = stops })
   module_stops command patterns are statuses.ReadFault stops = inl (record { command = command; rose = inr (patterns, are, stops) })

@@ -1,8 +1,8 @@
 -- When the command succeeds.
 use Rattle.std.specs.Prelude.{◌≡◌, ◌≤◌, ◌⊎◌, ℕ, List, length, Some}
 use Rattle.rw_outside.specs.Outside.{Rose}
-use Rattle.pdll_parser.specs.Patterns.{Erasing, IsPatternFile}
-use Rattle.mlir_parse.specs.Module.{IsModule}
+use Rattle.pdll_parser.specs.Patterns.{Erasing}
+use Rattle.pdllrw.specs.Accepted.{AcceptsPatterns, AcceptsModule}
 use Rattle.pdllrw.specs.declared.status.Status.{Status}
 use Rattle.pdllrw.specs.declared.status.Status.TheVariants as statuses
 use Rattle.pdllrw.specs.declared.status.BoundKind.TheVariants as bounds
@@ -13,14 +13,12 @@ pub record GoesWell (old new : Outside) (words : List (List ℕ)) : Type 0 where
   pub command : Command words
   pub pattern_bytes : List ℕ
   pub patterns_told : old.files command.patterns ≡ Some pattern_bytes
-  pub patterns_short : length pattern_bytes ≤ 67108864
   pub patterns : List Erasing
-  pub are_patterns : IsPatternFile patterns pattern_bytes
+  pub are_patterns : AcceptsPatterns patterns pattern_bytes
   pub module_bytes : List ℕ
   pub module_told : old.files command.module_file ≡ Some module_bytes
-  pub module_short : length module_bytes ≤ 67108864
   pub names : List (List ℕ)
-  pub is_module : IsModule names module_bytes
+  pub is_module : AcceptsModule names module_bytes
   pub patterns_count : Rose (old.faults command.patterns) (new.faults command.patterns) → ⊥
   pub module_count : Rose (old.faults command.module_file) (new.faults command.module_file) → ⊥
   pub out_count : Rose old.out.faults new.out.faults → ⊥

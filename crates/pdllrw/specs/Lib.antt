@@ -3,6 +3,7 @@ pub mod Run
 pub mod View
 pub mod Texts
 pub mod Words
+pub mod Accepted
 pub mod Outcome
 pub mod Stops
 pub mod Written

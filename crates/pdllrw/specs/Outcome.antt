@@ -18,6 +18,7 @@ use Rattle.pdllrw.specs.declared.driver.Ending.TheVariants as endings
 use Rattle.pdllrw.specs.declared.status.Status.{Status}
 use Rattle.pdllrw.specs.declared.status.Status.TheVariants as statuses
 use Rattle.pdllrw.specs.declared.status.BoundKind.TheVariants as bounds
+use Rattle.pdllrw.specs.Accepted.{AcceptsPatterns, AcceptsModule}
 use Rattle.pdllrw.specs.Texts.{module_text, log_text}
 use Rattle.pdllrw.specs.Words.{command_of}
 
@@ -76,9 +77,9 @@ pub record Command (words : List (List ℕ)) : Type 0 where
 pub record Rewrites (files : List ℕ → Option (List ℕ)) (words : List (List ℕ)) (ending : Ending) (out log : List ℕ) : Type 0 where
   pub command : Command words
   pub patterns : List Erasing
-  pub are_patterns : IfSome (files command.patterns) (IsPatternFile patterns)
+  pub are_patterns : IfSome (files command.patterns) (AcceptsPatterns patterns)
   pub names : List (List ℕ)
-  pub is_module : IfSome (files command.module_file) (IsModule names)
+  pub is_module : IfSome (files command.module_file) (AcceptsModule names)
   pub ends : (run 10000 patterns (rows_of names)).ending ≡ ending
   pub out_is : out ≡ module_text (run 10000 patterns (rows_of names)).rows
   pub log_is : log ≡ log_text patterns (run 10000 patterns (rows_of names))
@@ -87,7 +88,7 @@ pub record Rewrites (files : List ℕ → Option (List ℕ)) (words : List (List
 pub record ReadsBadly (old new : Outside) (words : List (List ℕ)) : Type 0 where
   pub command : Command words
   pub rose : Rose (old.faults command.patterns) (new.faults command.patterns)
-      ⊎ ((patterns : List Erasing) × IfSome (old.files command.patterns) (IsPatternFile patterns) × Rose (old.faults command.module_file) (new.faults command.module_file))
+      ⊎ ((patterns : List Erasing) × IfSome (old.files command.patterns) (AcceptsPatterns patterns) × Rose (old.faults command.module_file) (new.faults command.module_file))
 
 pub record HasBadPatterns (old : Outside) (words : List (List ℕ)) (f : PatFault) : Type 0 where
   pub command : Command words
@@ -96,7 +97,7 @@ pub record HasBadPatterns (old : Outside) (words : List (List ℕ)) (f : PatFaul
 pub record HasBadModule (old : Outside) (words : List (List ℕ)) (f : ModFault) : Type 0 where
   pub command : Command words
   pub patterns : List Erasing
-  pub are_patterns : IfSome (old.files command.patterns) (IsPatternFile patterns)
+  pub are_patterns : IfSome (old.files command.patterns) (AcceptsPatterns patterns)
   pub refused : IfSome (old.files command.module_file) (RefusesModule f)
 
 -- why a status that writes a line comes

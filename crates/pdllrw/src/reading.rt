@@ -1,8 +1,9 @@
 // Reads the files of the command.
 ghost use Rattle.std.specs.Prelude.{◌≡◌, ◌≤◌, ◌<◌, ℕ, List, true, length, IfOk, IfErr, IfSome};
-ghost use Rattle.pdll_parser.specs.Patterns.{IsPatternFile, are_allowed};
+ghost use Rattle.pdll_parser.specs.Patterns.{are_allowed};
 ghost use Rattle.pdll_parser.specs.View.{views};
-ghost use Rattle.mlir_parse.specs.Module.{IsModule, texts};
+ghost use Rattle.mlir_parse.specs.Module.{texts};
+ghost use Rattle.pdllrw.specs.Accepted.{AcceptsPatterns, AcceptsModule};
 ghost use Rattle.pdllrw.specs.Stops.{StopsPatterns, StopsModule};
 
 use crate::status::Status;
@@ -20,7 +21,7 @@ pub fn read_patterns<H: Host>(
     host: &mut H,
     name: &str,
 ) -> Result<Vec<Pattern>, Status>
-    ensures found { IfOk result (λ v. IfSome (H.file host.old name.now) (IsPatternFile (views v.items))) }
+    ensures found { IfOk result (λ v. IfSome (H.file host.old name.now) (AcceptsPatterns (views v.items))) }
     ensures allowed { IfOk result (λ v. are_allowed (views v.items) ≡ true) }
     ensures stopped { IfErr result (StopsPatterns (H.file host.old name.now) (H.faults host.old name.now) (H.faults host.new name.now)) }
     ensures never_falls { (n : List ℕ) → H.faults host.old n ≤ H.faults host.new n }
@@ -46,7 +47,7 @@ pub fn read_patterns<H: Host>(
 
 /// The names of the operations of the file of this name.
 pub fn read_module<H: Host>(alloc: Global, host: &mut H, name: &str) -> Result<Vec<Vec<u8>>, Status>
-    ensures found { IfOk result (λ v. IfSome (H.file host.old name.now) (IsModule (texts v.items))) }
+    ensures found { IfOk result (λ v. IfSome (H.file host.old name.now) (AcceptsModule (texts v.items))) }
     ensures few { IfOk result (λ v. length v.items ≤ 1000000) }
     ensures stopped { IfErr result (StopsModule (H.file host.old name.now) (H.faults host.old name.now) (H.faults host.new name.now)) }
     ensures never_falls { (n : List ℕ) → H.faults host.old n ≤ H.faults host.new n }

@@ -1,13 +1,14 @@
 use Rattle.std.proofs.Common.{◌≡◌, ◌≤◌, ℕ, List, Option, Some, None, map, length, string_bytes, refl, sym, ap, subst, ◌∙◌, arith}
 use Rattle.std.specs.Option.{option_map}
 use Rattle.std.specs.Prelude.{IfSome}
-use Rattle.pdll_parser.specs.Patterns.{IsPatternFile, are_allowed}
+use Rattle.pdll_parser.specs.Patterns.{are_allowed}
 use Rattle.pdll_parser.specs.View.{views}
-use Rattle.mlir_parse.specs.Module.{IsModule, texts}
+use Rattle.mlir_parse.specs.Module.{texts}
 use Rattle.pdllrw.specs.Run.{Course, run}
 use Rattle.pdllrw.specs.NamedRows.{rows_of}
 use Rattle.pdllrw.specs.View.{seen_run}
 use Rattle.pdllrw.specs.declared.status.Status.TheVariants as statuses
+use Rattle.pdllrw.specs.Accepted.{AcceptsPatterns, AcceptsModule}
 use Rattle.pdllrw.specs.Texts.{module_text, log_text}
 use Rattle.pdllrw.specs.Outcome.{Outside, Command, Rewrites, IsOutcome}
 use Rattle.pdllrw.proofs.Outcomes.{refused, stopped, patterns_stop, module_stops, shown, rises, stops_since}
@@ -27,7 +28,7 @@ returns-in-Err g c =
 pub returns-in-Err-read_module : goal.returns-in-Err-read_module
 returns-in-Err-read_module g c =
     let stop = c.in-Err-read_module.ensures.stopped in
-    let found : IfSome (g.H.Host.file c.args.host.now c.in-Some.patterns_name.now) (IsPatternFile (views c.in-Ok.patterns.items)) = c.in-Ok.ensures.found in
+    let found : IfSome (g.H.Host.file c.args.host.now c.in-Some.patterns_name.now) (AcceptsPatterns (views c.in-Ok.patterns.items)) = c.in-Ok.ensures.found in
     let name = c.in-Some.module_name.now in
     let command : Command (map string_bytes c.args.words.now) = record { patterns = c.in-Some.patterns_name.now; module_file = name; is_command = sym c.in-Some.ensures } in
     let since = stops_since (g.H.Host.file c.args.host.now name) (g.H.Host.file c.read_patterns.new.host name) (g.H.Host.faults c.args.host.now name) (g.H.Host.faults c.read_patterns.new.host name) (g.H.Host.faults c.read_module.new.host name)
@@ -44,10 +45,10 @@ returns g c =
     let name = c.in-Some.module_name.now in
     let patterns = views c.in-Ok.patterns.items in
     let names = texts c.in-Ok-read_module.names.items in
-    let found : IfSome (g.H.Host.file c.args.host.now c.in-Some.patterns_name.now) (IsPatternFile patterns) = c.in-Ok.ensures.found in
-    let found_later : IfSome (g.H.Host.file c.read_patterns.new.host name) (IsModule names) = c.in-Ok-read_module.ensures.found in
+    let found : IfSome (g.H.Host.file c.args.host.now c.in-Some.patterns_name.now) (AcceptsPatterns patterns) = c.in-Ok.ensures.found in
+    let found_later : IfSome (g.H.Host.file c.read_patterns.new.host name) (AcceptsModule names) = c.in-Ok-read_module.ensures.found in
     let same_file : g.H.Host.file c.read_patterns.new.host name ≡ g.H.Host.file c.args.host.now name = c.read_patterns.ensures.files name in
-    let is_module : IfSome (g.H.Host.file c.args.host.now name) (IsModule names) = subst (λ (o : Option (List ℕ)). IfSome o (IsModule names)) same_file found_later in
+    let is_module : IfSome (g.H.Host.file c.args.host.now name) (AcceptsModule names) = subst (λ (o : Option (List ℕ)). IfSome o (AcceptsModule names)) same_file found_later in
     let course : seen_run c.in-Ok-drive.run' ≡ run 10000 patterns (rows_of names) =
     c.in-Ok-drive.ensures ∙ ap (λ ps. run 10000 (views ps) (rows_of (texts c.deref-2.result.now))) c.deref.ensures.value ∙ ap (λ ns. run 10000 patterns (rows_of (texts ns))) c.deref-2.ensures.value in
     let out = module_text (seen_run c.in-Ok-drive.run').rows in
