@@ -1,0 +1,4 @@
+pub mod Classes
+pub mod Covers
+pub mod Sound
+pub mod Places

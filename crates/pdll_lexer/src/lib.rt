@@ -1,0 +1,11 @@
+//! The tokens of pattern text.
+#![tactic(auto)]
+
+mod scan;
+pub mod token;
+
+pub use scan::next_token;
+pub use token::{LexFault, Token, TokenKind};
+
+#[cfg(test)]
+mod tests;
