@@ -1,5 +1,5 @@
 // A sink that keeps the text which it takes.
-ghost use Rattle.std.specs.Prelude.{◌≡◌, ◌<◌, ◌≤◌, [], length, take, IfOk, OnErr, IsOk};
+ghost use Rattle.std.specs.Prelude.{◌≡◌, ◌<◌, ◌≤◌, [], length, take, IfOk, OnErr, IsOk, IsErr};
 ghost use Rattle.rw_outside.specs.Outside.{Rose, appended, Grows};
 ghost use Rattle.mlir_print.specs.TextSink.{text_state};
 
@@ -29,7 +29,8 @@ impl TextSink {
 
     // The text taken, where all was put.
     pub fn finish(self, printed: Result<(), Failed>) -> Result<Text, AllocError>
-        ensures { IfOk result (λ text. IsOk printed × (text ≡ self.bytes.items)) }
+        ensures text { IfOk result (λ text. IsOk printed × (text ≡ self.bytes.items)) }
+        ensures failed { OnErr result (IsErr printed) }
     {
         match printed {
             Ok(()) => Ok(Items::from_vec(self.bytes)),
