@@ -1,6 +1,7 @@
 //! The tokens of pattern text.
 #![tactic(auto)]
 
+pub mod laws;
 mod scan;
 pub mod token;
 

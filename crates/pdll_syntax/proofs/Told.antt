@@ -37,10 +37,10 @@ pub both : (a b : Bool) → a ≡ true → b ≡ true → (a && b) ≡ true
 both true b h k = k
 both false b h k = absurd (cc)
 
-nat_told : (x y : ℕ) → nat_eq x y ≡ true → x ≡ y
+pub nat_told : (x y : ℕ) → nat_eq x y ≡ true → x ≡ y
 nat_told x y = (Decides-eqb x y).0
 
-nat_itself : (x : ℕ) → nat_eq x x ≡ true
+pub nat_itself : (x : ℕ) → nat_eq x x ≡ true
 nat_itself x = (Decides-eqb x x).1 refl
 
 text_told : (x y : List ℕ) → bytes_eq x y ≡ true → x ≡ y

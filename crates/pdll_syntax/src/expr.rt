@@ -1,13 +1,13 @@
 //! Expressions, operations, entries and refs.
 
-ghost use Rattle.std.specs.Prelude.{◌≡◌, ◌↔◌, IfOk, IsTrue};
+ghost use Rattle.std.specs.Prelude.{◌≡◌, ◌↔◌, nat_eq, IfOk, IsTrue};
 ghost use Rattle.std.specs.Str.{bytes_eq};
-ghost use Rattle.pdll_syntax.specs.Equal.{expr_eq, expr_form_eq, op_eq, entry_eq, ref_eq, ref_form_eq, exprs_eq, entries_eq, refs_eq, maybe_expr_eq, maybe_exprs_eq, option_eq};
+ghost use Rattle.pdll_syntax.specs.Equal.{list_eq, expr_eq, expr_form_eq, op_eq, entry_eq, ref_eq, ref_form_eq, exprs_eq, entries_eq, refs_eq, maybe_expr_eq, maybe_exprs_eq, option_eq};
 ghost use Rattle.pdll_syntax.specs.ExprTree.{exprs, entries, refs, maybe_expr, maybe_exprs};
 ghost use Rattle.pdll_syntax.specs.ExprView.{expr_form, ref_form};
 
 use crate::name::{Literal, Text, copy_text};
-use sqlite_items::{Boxed, Items};
+use sqlite_items::Items;
 use std::alloc::{AllocError, Global};
 use std::marker::Model;
 
@@ -18,6 +18,9 @@ pub struct Expr {
     /// The place of its first token.
     pub at: usize,
     pub form: ExprForm,
+    /// The numbers behind it, each after a `.`: `expression.number` is a result of an operation. They lie in a list, so
+    /// that a long chain of them is no deep tree.
+    pub members: Items<u16>,
 }
 
 /// What an expression is.
@@ -36,8 +39,6 @@ pub enum ExprForm {
     TyLit(Literal),
     /// `op<name>(..) {..} -> (..)`
     Op(OpExpr),
-    /// `expression.number`, a result of an operation.
-    Member(Boxed<Expr>, u16),
 }
 
 /// An operation expression.
@@ -102,15 +103,15 @@ impl Model for Expr {
     ghost coded = { coded_expr };
 
     ghost use Rattle.pdll_syntax.specs.ExprSize.{expr_size};
-    ghost use Rattle.pdll_syntax.specs.ExprView.{expr_form};
+    ghost use Rattle.pdll_syntax.specs.ExprView.{expr_form, with_members};
 
-    ghost view = { λ x. expr x.at (expr_form x.form) };
+    ghost view = { λ x. expr x.at (with_members x.at (expr_form x.form) x.members) };
 
     ghost size = { expr_size };
 
-    ghost use Rattle.pdll_syntax.specs.ExprFalls.{form_falls};
+    ghost use Rattle.pdll_syntax.specs.ExprFalls.{expr_falls};
 
-    ghost size_decreases = { λ x h. form_falls x.form };
+    ghost size_decreases = { λ x h. expr_falls x.at x.form x.members };
 }
 
 impl Model for OpExpr {
@@ -171,7 +172,12 @@ impl Expr {
         ensures { IfOk result (λ x. x ≡ self.now) }
     {
         let form = self.form.copy(alloc)?;
-        Ok(Expr { at: self.at, form })
+        let members = Items::from_slice(alloc, self.members.as_slice())?;
+        Ok(Expr {
+            at: self.at,
+            form,
+            members,
+        })
     }
 }
 
@@ -194,10 +200,6 @@ impl ExprForm {
             ExprForm::AttrLit(literal) => Ok(ExprForm::AttrLit(literal.copy(alloc)?)),
             ExprForm::TyLit(literal) => Ok(ExprForm::TyLit(literal.copy(alloc)?)),
             ExprForm::Op(operation) => Ok(ExprForm::Op(operation.copy(alloc)?)),
-            ExprForm::Member(of, result) => {
-                let of = of.get().copy(alloc)?;
-                Ok(ExprForm::Member(Boxed::new(alloc, of)?, *result))
-            }
         }
     }
 }
@@ -342,11 +344,30 @@ impl Expr {
     }
 }
 
+fn same_members(a: &[u16], b: &[u16]) -> bool
+    ensures { result ≡ list_eq nat_eq a.now b.now }
+{
+    let mut at = 0;
+    while at < a.len() && at < b.len() {
+        if a[at] != b[at] {
+            return false;
+        }
+        at += 1;
+    }
+    a.len() == b.len()
+}
+
 #[cycle(same_expr)]
 pub(crate) fn same_expr(x: &Expr, y: &Expr) -> bool
     ensures { result ≡ expr_eq x.now y.now }
 {
-    x.at == y.at && same_expr_form(&x.form, &y.form)
+    if x.at != y.at {
+        return false;
+    }
+    if !same_expr_form(&x.form, &y.form) {
+        return false;
+    }
+    same_members(x.members.as_slice(), y.members.as_slice())
 }
 
 #[cycle(same_expr)]
@@ -362,7 +383,6 @@ fn same_expr_form(x: &ExprForm, y: &ExprForm) -> bool
         (ExprForm::AttrLit(l), ExprForm::AttrLit(k)) => l.same(k),
         (ExprForm::TyLit(l), ExprForm::TyLit(k)) => l.same(k),
         (ExprForm::Op(o), ExprForm::Op(q)) => same_op(o, q),
-        (ExprForm::Member(x, k), ExprForm::Member(y, l)) => *k == *l && same_expr(x.get(), y.get()),
         _ => false,
     }
 }

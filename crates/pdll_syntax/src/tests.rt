@@ -5,9 +5,14 @@ use crate::fault::PatKind;
 use crate::file::{CallDecl, Decl, PatFile, PatternDecl};
 use crate::name::{Literal, Name, Text};
 use crate::stmt::{Body, Param, Stmt, StmtForm, Values};
-use sqlite_items::{Boxed, Items};
+use sqlite_items::Items;
 use std::alloc::{AllocError, Global};
 use std::test::Fail;
+
+fn plain(alloc: Global, at: usize, form: ExprForm) -> Result<Expr, AllocError> {
+    let members = Items::new(alloc);
+    Ok(Expr { at, form, members })
+}
 
 fn text(alloc: Global, bytes: &[u8]) -> Result<Text, AllocError> {
     Items::from_slice(alloc, bytes)
@@ -36,7 +41,7 @@ fn attr(alloc: Global, at: usize) -> Result<Items<Ref>, AllocError> {
 
 fn used(alloc: Global, at: usize, bytes: &[u8]) -> Result<Expr, AllocError> {
     let form = ExprForm::Name(text(alloc, bytes)?);
-    Ok(Expr { at, form })
+    plain(alloc, at, form)
 }
 
 // `first, second`, three bytes apart
@@ -59,7 +64,7 @@ fn param(alloc: Global, at: usize, word: &[u8]) -> Result<Param, AllocError>
 
 fn call(alloc: Global, at: usize, word: &[u8], arguments: Items<Expr>) -> Result<Expr, AllocError> {
     let form = ExprForm::Call(text(alloc, word)?, arguments);
-    Ok(Expr { at, form })
+    plain(alloc, at, form)
 }
 
 fn operation(
@@ -75,7 +80,7 @@ fn operation(
         entries,
         types: None,
     });
-    Ok(Expr { at, form })
+    plain(alloc, at, form)
 }
 
 // `op<t.const> {value = given}`
@@ -106,7 +111,7 @@ fn let_constant(alloc: Global, at: usize, word: &[u8], variable: &[u8]) -> Resul
 {
     let refs = attr(alloc, at + 32)?;
     let form = ExprForm::Declare(text(alloc, variable)?, refs);
-    let value = constant(alloc, at + 8, Expr { at: at + 29, form })?;
+    let value = constant(alloc, at + 8, plain(alloc, at + 29, form)?)?;
     let_value(alloc, at, word, value)
 }
 
@@ -209,12 +214,13 @@ fn fold_file(alloc: Global) -> Result<PatFile, AllocError> {
 // `attr<"unit">.2`
 fn member(alloc: Global) -> Result<Expr, AllocError> {
     let bytes = text(alloc, b"unit")?;
-    let literal = Expr {
+    let mut members = Items::new(alloc);
+    members.push(2)?;
+    Ok(Expr {
         at: 0,
         form: ExprForm::AttrLit(Literal { at: 5, bytes }),
-    };
-    let form = ExprForm::Member(Boxed::new(alloc, literal)?, 2);
-    Ok(Expr { at: 0, form })
+        members,
+    })
 }
 
 #[test]

@@ -5,12 +5,11 @@ use Rattle.std.specs.List.{position_from, AllByRecursion}
 use Rattle.std.specs.Str.{bytes_eq}
 use Rattle.std.proofs.lemmas.Slice.Eq.{bytes_eq-Decides}
 use Rattle.std.proofs.lemmas.Bool.{false≢true}
-use Rattle.pdll_parser.specs.Patterns.{Erasing}
+use Rattle.pdllrw.specs.Patterns.{Erasing}
 use Rattle.pdllrw.specs.declared.driver.Hit.{Hit}
-use Rattle.pdllrw.specs.declared.driver.Ending.{Ending}
 use Rattle.pdllrw.specs.declared.driver.Ending.TheVariants.{Converged, Bound}
 use Rattle.pdllrw.specs.NamedRows.{NamedRow, removed}
-use Rattle.pdllrw.specs.Run.{best, first_hit, Course, stopped, after_step, run, Matches, NoneMatches}
+use Rattle.pdllrw.specs.Run.{best, first_hit, stopped, after_step, run, Matches, NoneMatches}
 
 none_here : (ps : List Erasing) (i : ℕ) (r : NamedRow) → position_from (λ p. bytes_eq p.op r.name) i ps ≡ None → AllByRecursion (λ p. Matches p r → ⊥) ps
 none_here [] i r none = tt

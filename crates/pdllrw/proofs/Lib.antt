@@ -3,5 +3,6 @@ pub mod Converged
 pub mod Outcomes
 pub mod Completes
 pub mod Refusals
-pub mod Allowed
+pub mod Built
 pub mod Gathered
+pub mod Lines

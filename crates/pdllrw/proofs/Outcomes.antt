@@ -1,17 +1,15 @@
 -- The parts of the command give its outcome.
-use Rattle.std.proofs.Common.{◌≡◌, ◌⊎◌, ℕ, ◌≤◌, List, [], ◌++◌, length, Option, Some, None, map, refl, sym, ap, subst, ◌∙◌, inl, inr, arith}
+use Rattle.std.proofs.Common.{◌≡◌, ◌⊎◌, ℕ, ◌≤◌, List, [], Option, None, refl, sym, subst, ◌∙◌, inl, inr, arith}
 use Rattle.std.specs.Prelude.{IfSome}
-use Rattle.rw_outside.specs.Outside.{Rose, appended, PutsFront}
-use Rattle.pdll_parser.specs.Patterns.{Erasing}
-use Rattle.pdllrw.specs.Accepted.{AcceptsPatterns, AcceptsModule}
-use Rattle.pdllrw.specs.Run.{Course, run}
+use Rattle.rw_outside.specs.Outside.{Rose}
+use Rattle.pdllrw.specs.Patterns.{Erasing}
+use Rattle.pdllrw.specs.Accepted.{AcceptsPatterns}
+use Rattle.pdllrw.specs.declared.position.Position.{Position}
 use Rattle.pdllrw.specs.declared.driver.Ending.{Ending}
 use Rattle.pdllrw.specs.declared.driver.Ending.TheVariants as endings
 use Rattle.pdllrw.specs.declared.status.Status.{Status}
 use Rattle.pdllrw.specs.declared.status.Status.TheVariants as statuses
-use Rattle.pdllrw.specs.declared.status.BoundKind.TheVariants as bounds
 use Rattle.pdllrw.specs.Words.{command_of}
-use Rattle.pdllrw.specs.Texts.{module_text, log_text}
 use Rattle.pdllrw.specs.Outcome
 use Rattle.pdllrw.specs.Outcome.{Outside, Command, Rewrites, ReadsBadly, HasBadPatterns, HasBadModule, IsCause, IsAnswer, IsWritten, IsCutShort, IsOutcome, line_of, kind_of_ending}
 use Rattle.pdllrw.specs.Stops.{StopsPatterns, StopsModule}
@@ -24,84 +22,76 @@ rises a a' b le rose = omega (arith, rose)
 module _ (old new : Outside) (words : List (List ℕ)) where
   -- ---- refusals
 
-  answer_of : (s : Status) → IsCause old new words s → IsAnswer old new words s [] (line_of s)
-  answer_of statuses.Usage cause = (cause, refl, refl)
-  answer_of (statuses.PatternFault f) cause = (cause, refl, refl)
-  answer_of (statuses.ModuleFault f) cause = (cause, refl, refl)
-  answer_of statuses.ReadFault cause = (cause, refl, refl)
-  answer_of statuses.Done cause = absurd cause
-  answer_of (statuses.Bound k) cause = absurd cause
-  answer_of statuses.WriteFault cause = absurd cause
-  answer_of statuses.NoMemory cause = absurd cause
+  answer_of : (p : Position) (s : Status) → IsCause old new words p s → IsAnswer old new words s [] (line_of p s)
+  answer_of p statuses.Usage cause = (p, cause, refl, refl)
+  answer_of p (statuses.PatternFault f) cause = (p, cause, refl, refl)
+  answer_of p (statuses.ModuleFault f) cause = (p, cause, refl, refl)
+  answer_of p statuses.ReadFault cause = (p, cause, refl, refl)
+  answer_of p statuses.Done cause = absurd cause
+  answer_of p (statuses.Bound k) cause = absurd cause
+  answer_of p statuses.WriteFault cause = absurd cause
+  answer_of p statuses.NoMemory cause = absurd cause
 
-  written_of : (s : Status) → IsCause old new words s → IsWritten old new words s → IsOutcome old new words s
-  written_of statuses.Usage cause w = w
-  written_of (statuses.PatternFault f) cause w = w
-  written_of (statuses.ModuleFault f) cause w = w
-  written_of statuses.ReadFault cause w = w
-  written_of statuses.Done cause w = absurd cause
-  written_of (statuses.Bound k) cause w = absurd cause
-  written_of statuses.WriteFault cause w = absurd cause
-  written_of statuses.NoMemory cause w = absurd cause
+  written_of : (p : Position) (s : Status) → IsCause old new words p s → IsWritten old new words s → IsOutcome old new words s
+  written_of p statuses.Usage cause w = w
+  written_of p (statuses.PatternFault f) cause w = w
+  written_of p (statuses.ModuleFault f) cause w = w
+  written_of p statuses.ReadFault cause w = w
+  written_of p statuses.Done cause w = absurd cause
+  written_of p (statuses.Bound k) cause w = absurd cause
+  written_of p statuses.WriteFault cause w = absurd cause
+  written_of p statuses.NoMemory cause w = absurd cause
 
-  pub refused : (s result : Status) → IsCause old new words s → new.out.bytes ≡ old.out.bytes → Tells old.log new.log (line_of s) s result → IsOutcome old new words result
-  refused s result cause same (inl told) =
-      subst (IsOutcome old new words) (sym told.0) (written_of s cause (record {
+  pub refused : (p : Position) (s result : Status) → IsCause old new words p s → new.out.bytes ≡ old.out.bytes → Tells old.log new.log (line_of p s) s result → IsOutcome old new words result
+  refused p s result cause same (inl told) =
+      subst (IsOutcome old new words) (sym told.0) (written_of p s cause (record {
         out = [];
-        log = line_of s;
-        is_answer = answer_of s cause;
+        log = line_of p s;
+        is_answer = answer_of p s cause;
         out_put = same ∙ sym (appended-nil old.out.bytes);
         log_put = told.1;
       }))
-  refused s result cause same (inr failed) =
+  refused p s result cause same (inr failed) =
       subst (IsOutcome old new words) (sym failed.0) (record {
         status = s;
         out = [];
-        log = line_of s;
-        is_answer = answer_of s cause;
+        log = line_of p s;
+        is_answer = answer_of p s cause;
         cut = inr (same ∙ sym (appended-nil old.out.bytes), failed.1, failed.2);
       })
+
+  pub refused_words : (p : Position) (s result : Status) → s ≡ statuses.Usage → command_of words ≡ None → new.out.bytes ≡ old.out.bytes → Tells old.log new.log (line_of p s) s result → IsOutcome old new words result
+  refused_words p s result is none same tells = refused p s result (subst (λ (q : Status). IsCause old new words p q) (sym is) none) same tells
 
   pub out_of_memory : (result : Status) → new.out.bytes ≡ old.out.bytes → new.log.bytes ≡ old.log.bytes → result ≡ statuses.NoMemory → IsOutcome old new words result
   out_of_memory result out log is = subst (IsOutcome old new words) (sym is) (out, log)
 
   -- either a cause, or want of memory
-  pub patterns_stop : (command : Command words) (s : Status) → StopsPatterns (old.files command.patterns) (old.faults command.patterns) (new.faults command.patterns) s → IsCause old new words s ⊎ (s ≡ statuses.NoMemory)
-  patterns_stop command (statuses.PatternFault f) stops = inl (record { command = command; refused = stops })
-  patterns_stop command statuses.ReadFault stops = inl (record { command = command; rose = inl stops })
-  patterns_stop command statuses.NoMemory stops = inr refl
-  patterns_stop command statuses.Done stops = absurd stops
-  patterns_stop command (statuses.Bound k) stops = absurd stops
-  patterns_stop command statuses.Usage stops = absurd stops
-  patterns_stop command (statuses.ModuleFault f) stops = absurd stops
-  patterns_stop command statuses.WriteFault stops = absurd stops
+  pub patterns_stop : (command : Command words) (p : Position) (s : Status) → StopsPatterns (old.files command.patterns) (old.faults command.patterns) (new.faults command.patterns) p s → IsCause old new words p s ⊎ (s ≡ statuses.NoMemory)
+  patterns_stop command p (statuses.PatternFault f) stops = inl (record { command = command; refused = stops })
+  patterns_stop command p statuses.ReadFault stops = inl (record { command = command; rose = inl stops })
+  patterns_stop command p statuses.NoMemory stops = inr refl
+  patterns_stop command p statuses.Done stops = absurd stops
+  patterns_stop command p (statuses.Bound k) stops = absurd stops
+  patterns_stop command p statuses.Usage stops = absurd stops
+  patterns_stop command p (statuses.ModuleFault f) stops = absurd stops
+  patterns_stop command p statuses.WriteFault stops = absurd stops
 
   pub module_stops : (command : Command words) (patterns : List Erasing) → IfSome (old.files command.patterns) (AcceptsPatterns patterns)
-      → (s : Status) → StopsModule (old.files command.module_file) (old.faults command.module_file) (new.faults command.module_file) s → IsCause old new words s ⊎ (s ≡ statuses.NoMemory)
-  module_stops command patterns are (statuses.ModuleFault f) stops = inl (record { command = command; patterns = patterns; are_patterns = are; refused = stops })
-  module_stops command patterns are statuses.ReadFault stops = inl (record { command = command; rose = inr (patterns, are, stops) })
-  module_stops command patterns are statuses.NoMemory stops = inr refl
-  module_stops command patterns are statuses.Done stops = absurd stops
-  module_stops command patterns are (statuses.Bound k) stops = absurd stops
-  module_stops command patterns are statuses.Usage stops = absurd stops
-  module_stops command patterns are (statuses.PatternFault f) stops = absurd stops
-  module_stops command patterns are statuses.WriteFault stops = absurd stops
+      → (p : Position) (s : Status) → StopsModule (old.files command.module_file) (old.faults command.module_file) (new.faults command.module_file) s → IsCause old new words p s ⊎ (s ≡ statuses.NoMemory)
+  module_stops command patterns are p (statuses.ModuleFault f) stops = inl (record { command = command; patterns = patterns; are_patterns = are; refused = stops })
+  module_stops command patterns are p statuses.ReadFault stops = inl (record { command = command; rose = inr (patterns, are, stops) })
+  module_stops command patterns are p statuses.NoMemory stops = inr refl
+  module_stops command patterns are p statuses.Done stops = absurd stops
+  module_stops command patterns are p (statuses.Bound k) stops = absurd stops
+  module_stops command patterns are p statuses.Usage stops = absurd stops
+  module_stops command patterns are p (statuses.PatternFault f) stops = absurd stops
+  module_stops command patterns are p statuses.WriteFault stops = absurd stops
 
-  silent_line : line_of statuses.NoMemory ≡ []
-  unfolding line_of
-  silent_line = refl
-
-  pub stopped : (s result : Status) → IsCause old new words s ⊎ (s ≡ statuses.NoMemory) → new.out.bytes ≡ old.out.bytes
-      → Tells old.log new.log (line_of s) s result → (line_of s ≡ [] → result ≡ s) → IsOutcome old new words result
-  stopped s result (inl cause) same tells silent = refused s result cause same tells
-  stopped s result (inr memory) same tells silent =
-      let no_line : line_of s ≡ [] = ap line_of memory ∙ silent_line in
-      let is : result ≡ statuses.NoMemory = silent no_line ∙ memory in
-      out_of_memory result same (log_same tells no_line is) is
-    where
-      log_same : Tells old.log new.log (line_of s) s result → line_of s ≡ [] → result ≡ statuses.NoMemory → new.log.bytes ≡ old.log.bytes
-      log_same (inl told) no_line is = told.1 ∙ ap (appended old.log.bytes) no_line ∙ appended-nil old.log.bytes
-      log_same (inr failed) no_line is = absurd (cc (failed.0, is))
+  pub stopped : (p : Position) (s result : Status) → IsCause old new words p s ⊎ (s ≡ statuses.NoMemory) → new.out.bytes ≡ old.out.bytes
+      → Tells old.log new.log (line_of p s) s result → (s ≡ statuses.NoMemory → (result ≡ statuses.NoMemory) × (new.log.bytes ≡ old.log.bytes)) → IsOutcome old new words result
+  stopped p s result (inl cause) same tells silent = refused p s result cause same tells
+  stopped p s result (inr memory) same tells silent = let (is, log) = silent memory in out_of_memory result same log is
 
   -- ---- the run
 

@@ -1,11 +1,10 @@
 -- When the command succeeds.
-use Rattle.std.specs.Prelude.{◌≡◌, ◌≤◌, ◌⊎◌, ℕ, List, length, Some}
+use Rattle.std.specs.Prelude.{◌≡◌, ℕ, List, Some}
 use Rattle.rw_outside.specs.Outside.{Rose}
-use Rattle.pdll_parser.specs.Patterns.{Erasing}
+use Rattle.pdllrw.specs.Patterns.{Erasing}
 use Rattle.pdllrw.specs.Accepted.{AcceptsPatterns, AcceptsModule}
 use Rattle.pdllrw.specs.declared.status.Status.{Status}
 use Rattle.pdllrw.specs.declared.status.Status.TheVariants as statuses
-use Rattle.pdllrw.specs.declared.status.BoundKind.TheVariants as bounds
 use Rattle.pdllrw.specs.Outcome.{Outside, Command}
 
 -- The files are told and accepted, and no count rose.

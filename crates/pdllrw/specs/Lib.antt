@@ -1,3 +1,5 @@
+pub mod Patterns
+pub mod Positions
 pub mod NamedRows
 pub mod Run
 pub mod View

@@ -1,17 +1,24 @@
 -- What the program answers, by its words and its files.
-use Rattle.std.specs.Prelude.{◌≡◌, ◌<◌, ◌≤◌, ◌⊎◌, ℕ, List, [], ◌++◌, length, codes, Option, Some, None, IfSome}
+use Rattle.std.specs.Prelude.{◌≡◌, ◌<◌, ◌≤◌, ◌⊎◌, ℕ, true, List, [], ◌∷◌, length, codes, decimal, Option, Some, None, IfSome}
+use Rattle.std.specs.List.{concat}
 use Rattle.rw_outside.specs.Outside.{Rose, appended, PutsFront}
 use Rattle.rw_outside.specs.Puts.{SinkState}
-use Rattle.pdll_parser.specs.Patterns.{Erasing, IsPatternFile}
-use Rattle.pdll_parser.specs.declared.PatFault.{PatFault}
-use Rattle.pdll_parser.specs.declared.PatKind.{PatKind}
-use Rattle.pdll_parser.specs.declared.PatKind.TheVariants as pat_kinds
+use Rattle.pdll_syntax.specs.declared.file.PatFile.{PatFile}
+use Rattle.pdll_syntax.specs.Faults.{code_text}
+use Rattle.pdll_parser.specs.FileGrammar.{IsPatternFile}
+use Rattle.pdll_parser.specs.Spelling.{is_spelling_fault}
+use Rattle.pdllrw.specs.Patterns.{Erasing, built}
+use Rattle.pdllrw.specs.Positions.{position_of}
+use Rattle.pdllrw.specs.declared.position.Position.{Position}
+use Rattle.pdll_syntax.specs.declared.fault.PatFault.{PatFault}
+use Rattle.pdll_syntax.specs.declared.fault.PatKind.{PatKind}
+use Rattle.pdll_syntax.specs.declared.fault.PatKind.TheVariants as pat_kinds
 use Rattle.mlir_parse.specs.Module.{IsModule}
 use Rattle.mlir_parse.specs.declared.ModFault.{ModFault}
 use Rattle.mlir_parse.specs.declared.ModKind.{ModKind}
 use Rattle.mlir_parse.specs.declared.ModKind.TheVariants as mod_kinds
-use Rattle.pdllrw.specs.NamedRows.{NamedRow, rows_of}
-use Rattle.pdllrw.specs.Run.{Course, run}
+use Rattle.pdllrw.specs.NamedRows.{rows_of}
+use Rattle.pdllrw.specs.Run.{run}
 use Rattle.pdllrw.specs.declared.driver.Hit.{Hit}
 use Rattle.pdllrw.specs.declared.driver.Ending.{Ending}
 use Rattle.pdllrw.specs.declared.driver.Ending.TheVariants as endings
@@ -31,13 +38,22 @@ pub record Outside : Type 0 where
 
 -- ---- refusals
 
-abbrev pub RefusesPatternsAs : PatKind → ℕ → List ℕ → Type 0
-RefusesPatternsAs pat_kinds.TooLong at bytes = (67108864 < length bytes) × (at ≡ 67108864)
-RefusesPatternsAs pat_kinds.NotBuilt at bytes = (at ≡ 0) × (length bytes ≤ 67108864) × ((ps : List Erasing) → IsPatternFile ps bytes → ⊥)
+-- The file isn't spelled, and the place of the fault is on this line and in this column.
+pub record IsNotSpelled (p : Position) (kind : PatKind) (at : ℕ) (bytes : List ℕ) : Type 0 where
+  pub is_kind : is_spelling_fault kind ≡ true
+  pub short : length bytes ≤ 67108864
+  pub not_spelled : (file : PatFile) → IsPatternFile bytes file → ⊥
+  pub within : at ≤ length bytes
+  pub place : p ≡ position_of bytes at
 
--- the bytes are refused with this fault
-abbrev pub RefusesPatterns : PatFault → List ℕ → Type 0
-RefusesPatterns f bytes = RefusesPatternsAs f.kind f.at bytes
+abbrev pub RefusesPatternsAs : Position → PatKind → ℕ → List ℕ → Type 0
+RefusesPatternsAs p pat_kinds.TooLong at bytes = (67108864 < length bytes) × (at ≡ 67108864)
+RefusesPatternsAs p pat_kinds.NotBuilt at bytes = (at ≡ 0) × (length bytes ≤ 67108864) × (file : PatFile) × IsPatternFile bytes file × (built file ≡ None)
+RefusesPatternsAs p kind at bytes = IsNotSpelled p kind at bytes
+
+-- the bytes are refused with this fault, whose place is on this line and in this column
+abbrev pub RefusesPatterns : Position → PatFault → List ℕ → Type 0
+RefusesPatterns p f bytes = RefusesPatternsAs p f.kind f.at bytes
 
 abbrev pub RefusesModuleAs : ModKind → ℕ → List ℕ → Type 0
 RefusesModuleAs mod_kinds.TooLong at bytes = (67108864 < length bytes) × (at ≡ 67108864)
@@ -46,24 +62,30 @@ RefusesModuleAs mod_kinds.NotBuilt at bytes = (at ≡ 0) × (length bytes ≤ 67
 abbrev pub RefusesModule : ModFault → List ℕ → Type 0
 RefusesModule f bytes = RefusesModuleAs f.kind f.at bytes
 
-abbrev pub patterns_line : PatKind → List ℕ
-patterns_line pat_kinds.TooLong = codes "pdllrw: patterns: P1 TooLong\n"
-patterns_line pat_kinds.NotBuilt = codes "pdllrw: patterns: P0 NotBuilt\n"
+-- a line and a column, and what is wrong there
+abbrev pub placed_line : List ℕ → Position → List ℕ → List ℕ
+placed_line file p code = concat (codes "pdllrw: " ∷ file ∷ codes ": " ∷ decimal p.line ∷ codes ":" ∷ decimal p.column ∷ codes ": " ∷ code ∷ codes "\n" ∷ [])
+
+abbrev pub patterns_line : Position → PatKind → List ℕ
+patterns_line p pat_kinds.TooLong = codes "pdllrw: patterns: P1 TooLong\n"
+patterns_line p pat_kinds.NotBuilt = codes "pdllrw: patterns: P0 NotBuilt\n"
+patterns_line p kind = placed_line (codes "patterns") p (code_text kind)
 
 abbrev pub module_line : ModKind → List ℕ
 module_line mod_kinds.TooLong = codes "pdllrw: module: M1 TooLong\n"
 module_line mod_kinds.NotBuilt = codes "pdllrw: module: M0 NotBuilt\n"
 
--- the line of a refusal
-unfoldable pub line_of : Status → List ℕ
-line_of statuses.Usage = codes "pdllrw: usage: pdllrw [--max-rewrites N] PATTERNS MODULE or --emit KIND PATTERNS or --generate N\n"
-line_of (statuses.PatternFault f) = patterns_line f.kind
-line_of (statuses.ModuleFault f) = module_line f.kind
-line_of statuses.ReadFault = codes "pdllrw: read fault\n"
-line_of statuses.Done = []
-line_of (statuses.Bound k) = []
-line_of statuses.WriteFault = []
-line_of statuses.NoMemory = []
+-- the line of a refusal that names no place of a file
+abbrev pub plain_line : Status → List ℕ
+plain_line statuses.Usage = codes "pdllrw: usage: pdllrw [--max-rewrites N] PATTERNS MODULE or --emit KIND PATTERNS or --generate N\n"
+plain_line statuses.ReadFault = codes "pdllrw: read fault\n"
+plain_line status = []
+
+-- the line of a refusal, with the line and the column of its place where it names one
+unfoldable pub line_of : Position → Status → List ℕ
+line_of p (statuses.PatternFault f) = patterns_line p f.kind
+line_of p (statuses.ModuleFault f) = module_line f.kind
+line_of p status = plain_line status
 
 -- ---- answers
 
@@ -90,9 +112,9 @@ pub record ReadsBadly (old new : Outside) (words : List (List ℕ)) : Type 0 whe
   pub rose : Rose (old.faults command.patterns) (new.faults command.patterns)
       ⊎ ((patterns : List Erasing) × IfSome (old.files command.patterns) (AcceptsPatterns patterns) × Rose (old.faults command.module_file) (new.faults command.module_file))
 
-pub record HasBadPatterns (old : Outside) (words : List (List ℕ)) (f : PatFault) : Type 0 where
+pub record HasBadPatterns (old : Outside) (words : List (List ℕ)) (p : Position) (f : PatFault) : Type 0 where
   pub command : Command words
-  pub refused : IfSome (old.files command.patterns) (RefusesPatterns f)
+  pub refused : IfSome (old.files command.patterns) (RefusesPatterns p f)
 
 pub record HasBadModule (old : Outside) (words : List (List ℕ)) (f : ModFault) : Type 0 where
   pub command : Command words
@@ -100,22 +122,22 @@ pub record HasBadModule (old : Outside) (words : List (List ℕ)) (f : ModFault)
   pub are_patterns : IfSome (old.files command.patterns) (AcceptsPatterns patterns)
   pub refused : IfSome (old.files command.module_file) (RefusesModule f)
 
--- why a status that writes a line comes
-abbrev pub IsCause : Outside → Outside → List (List ℕ) → Status → Type 0
-IsCause old new words statuses.Usage = command_of words ≡ None
-IsCause old new words (statuses.PatternFault f) = HasBadPatterns old words f
-IsCause old new words (statuses.ModuleFault f) = HasBadModule old words f
-IsCause old new words statuses.ReadFault = ReadsBadly old new words
-IsCause old new words statuses.Done = ⊥
-IsCause old new words (statuses.Bound k) = ⊥
-IsCause old new words statuses.WriteFault = ⊥
-IsCause old new words statuses.NoMemory = ⊥
+-- why a status that writes a line comes, and the line and the column that it names
+abbrev pub IsCause : Outside → Outside → List (List ℕ) → Position → Status → Type 0
+IsCause old new words p statuses.Usage = command_of words ≡ None
+IsCause old new words p (statuses.PatternFault f) = HasBadPatterns old words p f
+IsCause old new words p (statuses.ModuleFault f) = HasBadModule old words f
+IsCause old new words p statuses.ReadFault = ReadsBadly old new words
+IsCause old new words p statuses.Done = ⊥
+IsCause old new words p (statuses.Bound k) = ⊥
+IsCause old new words p statuses.WriteFault = ⊥
+IsCause old new words p statuses.NoMemory = ⊥
 
 -- a status, and what is written with it
 abbrev pub IsAnswer : Outside → Outside → List (List ℕ) → Status → List ℕ → List ℕ → Type 0
 IsAnswer old new words statuses.Done out log = Rewrites old.files words endings.Converged out log
 IsAnswer old new words (statuses.Bound bounds.Rewrites) out log = (h : Hit) × Rewrites old.files words (endings.Bound h) out log
-IsAnswer old new words status out log = IsCause old new words status × (out ≡ []) × (log ≡ line_of status)
+IsAnswer old new words status out log = (p : Position) × IsCause old new words p status × (out ≡ []) × (log ≡ line_of p status)
 
 -- Both texts were written.
 pub record IsWritten (old new : Outside) (words : List (List ℕ)) (status : Status) : Type 0 where

@@ -3,7 +3,7 @@ use Rattle.std.specs.Prelude.{ℕ, zero, suc, List, [], ◌∷◌, Option, Some,
 use Rattle.std.specs.Option.{option_map_or}
 use Rattle.std.specs.List.{position_from, AllByRecursion}
 use Rattle.std.specs.Str.{bytes_eq}
-use Rattle.pdll_parser.specs.Patterns.{Erasing}
+use Rattle.pdllrw.specs.Patterns.{Erasing}
 use Rattle.pdllrw.specs.declared.driver.Hit.{Hit}
 use Rattle.pdllrw.specs.declared.driver.Ending.{Ending}
 use Rattle.pdllrw.specs.declared.driver.Ending.TheVariants.{Converged, Bound}

@@ -1,8 +1,8 @@
 -- The texts that are written: the module at the end, and the log of the run.
 use Rattle.std.specs.Prelude.{ℕ, ◌+◌, List, [], ◌∷◌, ◌++◌, codes, decimal, slice_get, length}
 use Rattle.std.specs.Option.{option_map_or}
-use Rattle.std.specs.List.{concat, flat_map}
-use Rattle.pdll_parser.specs.Patterns.{Erasing}
+use Rattle.std.specs.List.{concat}
+use Rattle.pdllrw.specs.Patterns.{Erasing}
 use Rattle.pdllrw.specs.declared.driver.Hit.{Hit}
 use Rattle.pdllrw.specs.declared.driver.Ending.{Ending}
 use Rattle.pdllrw.specs.declared.driver.Ending.TheVariants.{Converged, Bound}

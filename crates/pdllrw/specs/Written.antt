@@ -1,5 +1,5 @@
 -- What is left in the sinks.
-use Rattle.std.specs.Prelude.{◌≡◌, ◌⊎◌, ℕ, List, Option, Result, OnOk, OnErr}
+use Rattle.std.specs.Prelude.{◌≡◌, ◌⊎◌, ℕ, List, Result, OnOk, OnErr}
 use Rattle.rw_outside.specs.Outside.{Rose, appended, PutsFront}
 use Rattle.rw_outside.specs.Puts.{SinkState}
 use Rattle.pdllrw.specs.declared.status.Status.{Status}

@@ -1,12 +1,12 @@
 // The run: erases, again and again, the first operation in text order at which a pattern matches.
 ghost use Rattle.std.specs.Prelude.{◌≡◌, ◌+◌, ◌-◌, ◌≤◌, ◌<◌, ◌^◌, ◌++◌, ℕ, List, length, IfOk, IfSome, OnOk, Option, None, codes};
-ghost use Rattle.pdll_parser.specs.View.{views};
+ghost use Rattle.pdllrw.specs.Patterns.{views};
 ghost use Rattle.mlir_parse.specs.Module.{texts};
 ghost use Rattle.pdllrw.specs.NamedRows.{numbered, rows_of};
 ghost use Rattle.pdllrw.specs.Run.{best, run};
 ghost use Rattle.pdllrw.specs.View.{seen_rows, seen_run};
 
-use pdll_parser::Pattern;
+use crate::patterns::Pattern;
 use std::alloc::{AllocError, Global};
 
 /// A pattern, and the operation at which it matches.

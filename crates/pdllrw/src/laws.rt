@@ -1,7 +1,7 @@
 // What follows from the outcome of the command, and from the run.
 ghost use Rattle.std.specs.Prelude.{◌≡◌, ℕ, List};
 ghost use Rattle.pdllrw.specs.NamedRows.{NamedRow};
-ghost use Rattle.pdll_parser.specs.Patterns.{Erasing};
+ghost use Rattle.pdllrw.specs.Patterns.{Erasing};
 ghost use Rattle.pdllrw.specs.declared.driver.Ending.TheVariants as endings;
 ghost use Rattle.pdllrw.specs.declared.status.Status.{Status as AnyStatus};
 ghost use Rattle.pdllrw.specs.Outcome.{Outside, IsOutcome};

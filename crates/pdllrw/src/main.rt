@@ -3,6 +3,8 @@
 
 mod driver;
 mod laws;
+mod patterns;
+mod position;
 mod reading;
 mod run;
 mod status;

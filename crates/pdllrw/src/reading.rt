@@ -1,72 +1,129 @@
 // Reads the files of the command.
-ghost use Rattle.std.specs.Prelude.{◌≡◌, ◌≤◌, ◌<◌, ℕ, List, true, length, IfOk, IfErr, IfSome};
-ghost use Rattle.pdll_parser.specs.Patterns.{are_allowed};
-ghost use Rattle.pdll_parser.specs.View.{views};
+ghost use Rattle.std.specs.Prelude.{◌≡◌, ◌≤◌, ◌<◌, ◌⊎◌, ℕ, List, codes, length, IfOk, IfErr, IfSome, None};
+ghost use Rattle.pdllrw.specs.Patterns.{views};
 ghost use Rattle.mlir_parse.specs.Module.{texts};
+ghost use Rattle.pdll_syntax.specs.declared.fault.PatFault.{PatFault as Fault};
+ghost use Rattle.pdllrw.specs.Positions.{position_of};
+ghost use Rattle.pdllrw.specs.Run.{best};
+ghost use Rattle.mlir_parse.specs.declared.ModFault.{ModFault as ModuleFault};
+ghost use Rattle.pdllrw.specs.Outcome.{RefusesPatterns, RefusesModule};
+ghost use Rattle.pdllrw.specs.declared.status.Status.TheVariants as statuses;
 ghost use Rattle.pdllrw.specs.Accepted.{AcceptsPatterns, AcceptsModule};
 ghost use Rattle.pdllrw.specs.Stops.{StopsPatterns, StopsModule};
 
+use crate::patterns::{Pattern, built};
+use crate::position::{FIRST, Position, position_of};
 use crate::status::Status;
 use mlir_parse::{ModFault, ModKind, parse_module};
 use mlir_tree::refusal::Refusal;
-use pdll_parser::{PatFault, PatKind, Pattern, parse_patterns};
+use pdll_parser::parse_patterns;
+use pdll_syntax::fault::{PatFault, PatKind};
 use rw_outside::{Host, TakeErr, take_all};
 use std::alloc::Global;
 
 const MAX_BYTES: usize = 67_108_864;
 
+/// Why a command stopped: its status, and the line and the column that its line names, if it names any.
+#[derive(Clone, Copy, Debug)]
+pub struct Stop {
+    pub status: Status,
+    pub place: Position,
+}
+
+/// A stop that names no place.
+pub fn placeless(status: Status) -> Stop
+    ensures status { result.status ≡ status }
+{
+    Stop {
+        status,
+        place: FIRST,
+    }
+}
+
+fn not_spelled(bytes: &[u8], fault: PatFault) -> Stop
+    requires { fault.at ≤ length bytes.now }
+    ensures status { result.status ≡ statuses.PatternFault fault }
+    ensures place { result.place ≡ position_of bytes.now fault.at }
+{
+    Stop {
+        status: Status::PatternFault(fault),
+        place: position_of(bytes, fault.at),
+    }
+}
+
+fn pattern_fault(kind: PatKind, at: usize) -> Stop
+    ensures status { result.status ≡ statuses.PatternFault (record { kind = kind; at = at }) }
+{
+    placeless(Status::PatternFault(PatFault { kind, at }))
+}
+
+// The patterns that these bytes spell.
+fn patterns_of(alloc: Global, bytes: &[u8]) -> Result<Vec<Pattern>, Stop>
+    requires { length bytes.now ≤ 67108864 }
+    ensures found { IfOk result (λ v. AcceptsPatterns (views v.items) bytes.now) }
+    ensures stopped { IfErr result (λ stop. (stop.status ≡ statuses.NoMemory) ⊎ ((f : Fault) × (stop.status ≡ statuses.PatternFault f) × RefusesPatterns stop.place f bytes.now)) }
+{
+    let file = match parse_patterns(alloc, bytes) {
+        Ok(file) => file,
+        Err(Refusal::Fault(fault)) => return Err(not_spelled(bytes, fault)),
+        Err(Refusal::NoMemory) => return Err(placeless(Status::NoMemory)),
+    };
+    match built(alloc, &file) {
+        Ok(Some(patterns)) => Ok(patterns),
+        Ok(None) => Err(pattern_fault(PatKind::NotBuilt, 0)),
+        Err(_) => Err(placeless(Status::NoMemory)),
+    }
+}
+
 /// The patterns of the file of this name.
-pub fn read_patterns<H: Host>(
-    alloc: Global,
-    host: &mut H,
-    name: &str,
-) -> Result<Vec<Pattern>, Status>
+pub fn read_patterns<H: Host>(alloc: Global, host: &mut H, name: &str) -> Result<Vec<Pattern>, Stop>
     ensures found { IfOk result (λ v. IfSome (H.file host.old name.now) (AcceptsPatterns (views v.items))) }
-    ensures allowed { IfOk result (λ v. are_allowed (views v.items) ≡ true) }
-    ensures stopped { IfErr result (StopsPatterns (H.file host.old name.now) (H.faults host.old name.now) (H.faults host.new name.now)) }
+    ensures allowed { IfOk result (λ v. best (views v.items) (codes "builtin.module") ≡ None) }
+    ensures stopped { IfErr result (λ stop. StopsPatterns (H.file host.old name.now) (H.faults host.old name.now) (H.faults host.new name.now) stop.place stop.status) }
     ensures never_falls { (n : List ℕ) → H.faults host.old n ≤ H.faults host.new n }
     ensures files { (n : List ℕ) → H.file host.new n ≡ H.file host.old n }
 {
     let bytes = match take_all(alloc, host, name, MAX_BYTES) {
         Ok(bytes) => bytes,
-        Err(TakeErr::ReadFault) => return Err(Status::ReadFault),
-        Err(TakeErr::TooLong) => {
-            return Err(Status::PatternFault(PatFault {
-                kind: PatKind::TooLong,
-                at: MAX_BYTES,
-            }));
-        }
-        Err(TakeErr::NoMemory) => return Err(Status::NoMemory),
+        Err(TakeErr::ReadFault) => return Err(placeless(Status::ReadFault)),
+        Err(TakeErr::TooLong) => return Err(pattern_fault(PatKind::TooLong, MAX_BYTES)),
+        Err(TakeErr::NoMemory) => return Err(placeless(Status::NoMemory)),
     };
-    match parse_patterns(alloc, &bytes) {
-        Ok(patterns) => Ok(patterns),
-        Err(Refusal::Fault(fault)) => Err(Status::PatternFault(fault)),
-        Err(Refusal::NoMemory) => Err(Status::NoMemory),
+    patterns_of(alloc, &bytes)
+}
+
+// The names of the operations that these bytes spell.
+fn names_of(alloc: Global, bytes: &[u8]) -> Result<Vec<Vec<u8>>, Stop>
+    requires { length bytes.now ≤ 67108864 }
+    ensures found { IfOk result (λ v. AcceptsModule (texts v.items) bytes.now) }
+    ensures few { IfOk result (λ v. length v.items ≤ 1000000) }
+    ensures stopped { IfErr result (λ stop. (stop.status ≡ statuses.NoMemory) ⊎ ((f : ModuleFault) × (stop.status ≡ statuses.ModuleFault f) × RefusesModule f bytes.now)) }
+{
+    match parse_module(alloc, bytes) {
+        Ok(names) => Ok(names),
+        Err(Refusal::Fault(fault)) => Err(placeless(Status::ModuleFault(fault))),
+        Err(Refusal::NoMemory) => Err(placeless(Status::NoMemory)),
     }
 }
 
 /// The names of the operations of the file of this name.
-pub fn read_module<H: Host>(alloc: Global, host: &mut H, name: &str) -> Result<Vec<Vec<u8>>, Status>
+pub fn read_module<H: Host>(alloc: Global, host: &mut H, name: &str) -> Result<Vec<Vec<u8>>, Stop>
     ensures found { IfOk result (λ v. IfSome (H.file host.old name.now) (AcceptsModule (texts v.items))) }
     ensures few { IfOk result (λ v. length v.items ≤ 1000000) }
-    ensures stopped { IfErr result (StopsModule (H.file host.old name.now) (H.faults host.old name.now) (H.faults host.new name.now)) }
+    ensures stopped { IfErr result (λ stop. StopsModule (H.file host.old name.now) (H.faults host.old name.now) (H.faults host.new name.now) stop.status) }
     ensures never_falls { (n : List ℕ) → H.faults host.old n ≤ H.faults host.new n }
     ensures files { (n : List ℕ) → H.file host.new n ≡ H.file host.old n }
 {
     let bytes = match take_all(alloc, host, name, MAX_BYTES) {
         Ok(bytes) => bytes,
-        Err(TakeErr::ReadFault) => return Err(Status::ReadFault),
+        Err(TakeErr::ReadFault) => return Err(placeless(Status::ReadFault)),
         Err(TakeErr::TooLong) => {
-            return Err(Status::ModuleFault(ModFault {
+            return Err(placeless(Status::ModuleFault(ModFault {
                 kind: ModKind::TooLong,
                 at: MAX_BYTES,
-            }));
+            })));
         }
-        Err(TakeErr::NoMemory) => return Err(Status::NoMemory),
+        Err(TakeErr::NoMemory) => return Err(placeless(Status::NoMemory)),
     };
-    match parse_module(alloc, &bytes) {
-        Ok(names) => Ok(names),
-        Err(Refusal::Fault(fault)) => Err(Status::ModuleFault(fault)),
-        Err(Refusal::NoMemory) => Err(Status::NoMemory),
-    }
+    names_of(alloc, &bytes)
 }

@@ -1,19 +1,24 @@
 // The whole command, from its words to the written bytes.
 ghost use Rattle.std.specs.Prelude.{◌≡◌, ◌≤◌, ◌⊎◌, [], ℕ, List, Some, map, length, drop, string_bytes, IfOk};
 ghost use Rattle.rw_outside.specs.Outside.{Rose, appended, PutsFront};
-ghost use Rattle.pdll_parser.specs.View.{views};
+ghost use Rattle.pdllrw.specs.Patterns.{views};
 ghost use Rattle.pdllrw.specs.View.{seen_rows, seen_run};
 ghost use Rattle.pdllrw.specs.Texts.{module_text, log_text};
-ghost use Rattle.pdllrw.specs.Outcome.{IsOutcome, line_of, kind_of_ending};
+ghost use Rattle.rw_outside.specs.Puts.{Puts};
+ghost use Rattle.pdllrw.specs.declared.status.Status.TheVariants as statuses;
+ghost use Rattle.pdllrw.specs.Outcome.{IsOutcome, placed_line, patterns_line, module_line, plain_line, line_of, kind_of_ending};
 ghost use Rattle.pdllrw.specs.Written.{Tells, Shows, Writes};
 
 use crate::driver::{Ending, Row, Run, drive};
-use crate::reading::{read_module, read_patterns};
+use crate::patterns::Pattern;
+use crate::position::Position;
+use crate::reading::{Stop, placeless, read_module, read_patterns};
 use crate::status::{BoundKind, Status};
-use crate::texts::{put_log, put_module};
+use crate::texts::{put_log, put_module, put_pieces};
 use crate::words::command;
+use itoa::Buffer;
 use mlir_parse::ModKind;
-use pdll_parser::{PatKind, Pattern};
+use pdll_syntax::fault::PatKind;
 use rw_outside::{BufferedSink, Failed, Host, Sink, put_all};
 use std::alloc::{AllocError, Global};
 
@@ -22,39 +27,82 @@ const MAX_STEPS: usize = 10_000;
 // How many bytes are gathered before they are written.
 const GATHERED: usize = 65_536;
 
-// The line of a refusal.
-#[tactic(auto, unfolding(crate::specs::Outcome::line_of))]
-fn line_of(status: Status) -> &'static [u8]
-    ensures { result.now ≡ line_of status }
+fn put_patterns_line<G: Sink>(log: &mut G, place: Position, kind: PatKind) -> Result<(), Failed>
+    ensures { Puts (G.state log.old) (G.state log.new) result (patterns_line place kind) }
+{
+    match kind {
+        PatKind::TooLong => put_all(log, b"pdllrw: patterns: P1 TooLong\n"),
+        PatKind::NotBuilt => put_all(log, b"pdllrw: patterns: P0 NotBuilt\n"),
+        _ => put_placed(log, b"patterns", place, kind.code_text()),
+    }
+}
+
+// Puts the line of a fault of this file at a place.
+fn put_placed<G: Sink>(log: &mut G, file: &[u8], place: Position, code: &[u8]) -> Result<(), Failed>
+    ensures { Puts (G.state log.old) (G.state log.new) result (placed_line file.now place code.now) }
+{
+    let mut line = Buffer::new();
+    let mut column = Buffer::new();
+    put_pieces(
+        log,
+        &[
+            b"pdllrw: ",
+            file,
+            b": ",
+            line.format(place.line).as_bytes(),
+            b":",
+            column.format(place.column).as_bytes(),
+            b": ",
+            code,
+            b"\n",
+        ],
+    )
+}
+
+fn put_module_line<G: Sink>(log: &mut G, kind: ModKind) -> Result<(), Failed>
+    ensures { Puts (G.state log.old) (G.state log.new) result (module_line kind) }
+{
+    match kind {
+        ModKind::TooLong => put_all(log, b"pdllrw: module: M1 TooLong\n"),
+        ModKind::NotBuilt => put_all(log, b"pdllrw: module: M0 NotBuilt\n"),
+    }
+}
+
+// The line of a refusal that names no place of a file.
+fn plain_line(status: Status) -> &'static [u8]
+    ensures { result.now ≡ plain_line status }
 {
     match status {
         Status::Usage =>
             b"pdllrw: usage: pdllrw [--max-rewrites N] PATTERNS MODULE or --emit KIND PATTERNS or --generate N\n",
-        Status::PatternFault(fault) => match fault.kind {
-            PatKind::TooLong => b"pdllrw: patterns: P1 TooLong\n",
-            PatKind::NotBuilt => b"pdllrw: patterns: P0 NotBuilt\n",
-        },
-        Status::ModuleFault(fault) => match fault.kind {
-            ModKind::TooLong => b"pdllrw: module: M1 TooLong\n",
-            ModKind::NotBuilt => b"pdllrw: module: M0 NotBuilt\n",
-        },
         Status::ReadFault => b"pdllrw: read fault\n",
-        Status::Done | Status::Bound(_) | Status::WriteFault | Status::NoMemory => b"",
+        _ => b"",
+    }
+}
+
+// Puts the line of a refusal.
+#[tactic(auto, unfolding(crate::specs::Outcome::line_of))]
+fn put_line<G: Sink>(log: &mut G, stop: Stop) -> Result<(), Failed>
+    ensures { Puts (G.state log.old) (G.state log.new) result (line_of stop.place stop.status) }
+{
+    match stop.status {
+        Status::PatternFault(fault) => put_patterns_line(log, stop.place, fault.kind),
+        Status::ModuleFault(fault) => put_module_line(log, fault.kind),
+        status => put_all(log, plain_line(status)),
     }
 }
 
 // Writes the line of a refusal.
-fn refuse<G: Sink>(log: &mut G, status: Status) -> Status
-    ensures tells { Tells (G.state log.old) (G.state log.new) (line_of status) status result }
-    // Without a line nothing is written.
-    ensures silent { line_of status ≡ [] → result ≡ status }
+fn refuse<G: Sink>(log: &mut G, stop: Stop) -> Status
+    ensures tells { Tells (G.state log.old) (G.state log.new) (line_of stop.place stop.status) stop.status result }
+    // Without memory nothing is written.
+    ensures silent { stop.status ≡ statuses.NoMemory → (result ≡ statuses.NoMemory) × ((G.state log.new).bytes ≡ (G.state log.old).bytes) }
 {
-    let line = line_of(status);
-    if line.is_empty() {
-        return status;
+    if let Status::NoMemory = stop.status {
+        return Status::NoMemory;
     }
-    match put_all(log, line) {
-        Ok(()) => status,
+    match put_line(log, stop) {
+        Ok(()) => stop.status,
         Err(_) => Status::WriteFault,
     }
 }
@@ -151,15 +199,15 @@ pub fn run<H: Host, S: Sink, G: Sink>(
         (map string_bytes words.now) result }
 {
     let Some((patterns_name, module_name)) = command(words) else {
-        return refuse(log, Status::Usage);
+        return refuse(log, placeless(Status::Usage));
     };
     let patterns = match read_patterns(alloc, host, patterns_name) {
         Ok(patterns) => patterns,
-        Err(status) => return refuse(log, status),
+        Err(stop) => return refuse(log, stop),
     };
     let names = match read_module(alloc, host, module_name) {
         Ok(names) => names,
-        Err(status) => return refuse(log, status),
+        Err(stop) => return refuse(log, stop),
     };
     let Ok(run) = drive(alloc, &patterns, &names, MAX_STEPS) else {
         return Status::NoMemory;

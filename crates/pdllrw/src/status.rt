@@ -1,7 +1,7 @@
 ghost use Rattle.std.specs.Prelude.{◌≡◌};
 
 use mlir_parse::ModFault;
-use pdll_parser::PatFault;
+use pdll_syntax::fault::PatFault;
 
 /// Which limit ended a run.
 #[derive(Clone, Copy, Debug, PartialEq, Eq)]

@@ -1,7 +1,7 @@
 use crate::run;
 use crate::status::{BoundKind, Status};
 use mlir_parse::{ModFault, ModKind};
-use pdll_parser::{PatFault, PatKind};
+use pdll_syntax::fault::{PatFault, PatKind};
 use rw_outside::{MemHost, MemSink, SureHost, SureSink};
 use std::alloc::{AllocError, Global};
 use std::process::Abort;
@@ -95,6 +95,14 @@ fn rewrites_modules(rt: HostRuntime) -> Result<(), Fail> {
         },
         Case {
             words: &["p", "m"],
+            patterns: b"// both\nPattern { erase op<t.a> {}; }\nPattern B => erase op<t.b>;",
+            module: MODULE,
+            status: Status::Done,
+            out: b"\"builtin.module\"() ({}) : () -> ()\n",
+            log: b"pdllrw-log 1\nstep 1 pattern 0 \"\" root 1 made - removed 1\nstep 2 pattern 1 \"B\" root 2 made - removed 2\nstep 3 pattern 0 \"\" root 3 made - removed 3\nend converged steps 3\n",
+        },
+        Case {
+            words: &["p", "m"],
             patterns: PATTERN,
             module: MODULE,
             status: Status::Done,
@@ -121,13 +129,43 @@ fn refuses_words_and_files(rt: HostRuntime) -> Result<(), Fail> {
         (&["p", "-m"][..], PATTERN, MODULE, Status::Usage, USAGE),
         (
             &["p", "m"][..],
-            b"x".as_slice(),
+            b"Constraint Any(a: Attr);".as_slice(),
             MODULE,
             Status::PatternFault(PatFault {
                 kind: PatKind::NotBuilt,
                 at: 0,
             }),
             b"pdllrw: patterns: P0 NotBuilt\n".as_slice(),
+        ),
+        (
+            &["p", "m"][..],
+            b"Pattern A => erase op<t.a>;\nPattern A => erase op<t.b>;".as_slice(),
+            MODULE,
+            Status::PatternFault(PatFault {
+                kind: PatKind::NotBuilt,
+                at: 0,
+            }),
+            b"pdllrw: patterns: P0 NotBuilt\n".as_slice(),
+        ),
+        (
+            &["p", "m"][..],
+            b"// one\nPattern A =>\n  erase op<t.a>.x;\n".as_slice(),
+            MODULE,
+            Status::PatternFault(PatFault {
+                kind: PatKind::Syntax,
+                at: 36,
+            }),
+            b"pdllrw: patterns: 3:17: P5 Syntax\n".as_slice(),
+        ),
+        (
+            &["p", "m"][..],
+            b"Pattern A with benefit(65535) => erase op<t.a>;".as_slice(),
+            MODULE,
+            Status::PatternFault(PatFault {
+                kind: PatKind::BenefitRange,
+                at: 23,
+            }),
+            b"pdllrw: patterns: 1:24: P9 BenefitRange\n".as_slice(),
         ),
         (
             &["p", "m"][..],

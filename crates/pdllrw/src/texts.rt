@@ -1,18 +1,18 @@
 // Writes the module and the log.
 ghost use Rattle.std.specs.Prelude.{◌≡◌, ◌+◌, ◌<◌, ◌^◌, length, map, List, ℕ};
 ghost use Rattle.std.specs.List.{concat};
-ghost use Rattle.pdll_parser.specs.View.{views};
+ghost use Rattle.pdllrw.specs.Patterns.{views};
 ghost use Rattle.pdllrw.specs.View.{seen_rows, seen_run};
 ghost use Rattle.rw_outside.specs.Puts.{Puts};
 ghost use Rattle.pdllrw.specs.Texts.{row_line, row_lines, opening, closing, header, region_text, module_text, label_of, step_line, step_lines, ending_line, log_text};
 
 use crate::driver::{Ending, Hit, Row, Run};
+use crate::patterns::Pattern;
 use itoa::Buffer;
-use pdll_parser::Pattern;
 use rw_outside::{Failed, Sink, put_all};
 
 // Puts these pieces one behind another.
-fn put_pieces<S: Sink>(sink: &mut S, pieces: &[&[u8]]) -> Result<(), Failed>
+pub fn put_pieces<S: Sink>(sink: &mut S, pieces: &[&[u8]]) -> Result<(), Failed>
     ensures { Puts (S.state sink.old) (S.state sink.new) result (concat (map (λ p. p.now) pieces.now)) }
 {
     for piece in pieces {

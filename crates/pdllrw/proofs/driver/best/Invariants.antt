@@ -1,7 +1,7 @@
 use Rattle.std.proofs.Common.{◌≡◌, drop}
 use Rattle.std.specs.List.{position_from}
 use Rattle.std.specs.Str.{bytes_eq}
-use Rattle.pdll_parser.specs.View.{views}
+use Rattle.pdllrw.specs.Patterns.{views}
 use Rattle.pdllrw.specs.Run.{best}
 use Rattle.pdllrw.proofs.driver.best.Given as goal
 

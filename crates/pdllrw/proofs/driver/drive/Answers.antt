@@ -1,14 +1,14 @@
-use Rattle.std.proofs.Common.{◌≡◌, ◌+◌, ◌-◌, ◌++◌, ◌∷◌, [], ℕ, List, Some, None, length, take, drop, sym, ◌∙◌, ap, subst, arith, length-drop}
+use Rattle.std.proofs.Common.{◌≡◌, ◌+◌, ◌-◌, ◌++◌, ◌∷◌, [], ℕ, List, Some, None, length, drop, sym, ◌∙◌, ap, arith, length-drop}
 use Rattle.std.specs.Global.{Vec}
 use Rattle.std.proofs.lemmas.List.{map_push, take_all}
-use Rattle.pdll_parser.specs.View.{views}
+use Rattle.pdllrw.specs.Patterns.{views}
 use Rattle.mlir_parse.specs.Module.{texts}
 use Rattle.pdllrw.specs.declared.driver.Hit.{Hit}
 use Rattle.pdllrw.specs.declared.driver.Row.{Row}
-use Rattle.pdllrw.specs.NamedRows.{NamedRow, numbered, module_row}
+use Rattle.pdllrw.specs.NamedRows.{numbered}
 use Rattle.pdllrw.specs.Run.{best}
 use Rattle.pdllrw.specs.View.{seen_row, seen_rows}
-use Rattle.pdllrw.proofs.Drives.{Drives, starts, passes, takes_step, stops_at_bound, converges}
+use Rattle.pdllrw.proofs.Drives.{starts, passes, takes_step, stops_at_bound, converges}
 use Rattle.pdllrw.proofs.driver.drive.Goals as goal
 use Rattle.pdllrw.proofs.driver.drive.Goals.{in-None+in_ok-push-in-None, in-Some+else-len-bound+in_ok-push-in-Some}
 

@@ -1,4 +1,4 @@
-use Rattle.pdll_parser.specs.View.{views}
+use Rattle.pdllrw.specs.Patterns.{views}
 use Rattle.pdllrw.specs.View.{seen_rows}
 use Rattle.pdllrw.proofs.Drives.{Drives}
 use Rattle.pdllrw.proofs.driver.drive.Given as goal

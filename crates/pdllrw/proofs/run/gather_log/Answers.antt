@@ -1,5 +1,5 @@
 use Rattle.std.proofs.lemmas.Result.{err_from_is_err_and}
-use Rattle.pdll_parser.specs.View.{views}
+use Rattle.pdllrw.specs.Patterns.{views}
 use Rattle.pdllrw.specs.View.{seen_run}
 use Rattle.pdllrw.specs.Texts.{log_text}
 use Rattle.pdllrw.proofs.Gathered.{gathering_fails, flushes}

@@ -1,29 +1,26 @@
-use Rattle.std.proofs.Common.{◌≡◌, ◌≤◌, ℕ, List, Option, Some, None, map, length, string_bytes, refl, sym, ap, subst, ◌∙◌, arith}
+use Rattle.std.proofs.Common.{◌≡◌, ℕ, List, Option, map, codes, string_bytes, refl, sym, ap, subst, ◌∙◌}
 use Rattle.std.specs.Option.{option_map}
 use Rattle.std.specs.Prelude.{IfSome}
-use Rattle.pdll_parser.specs.Patterns.{are_allowed}
-use Rattle.pdll_parser.specs.View.{views}
+use Rattle.pdllrw.specs.Patterns.{views}
 use Rattle.mlir_parse.specs.Module.{texts}
-use Rattle.pdllrw.specs.Run.{Course, run}
+use Rattle.pdllrw.specs.Run.{best, Course, run}
 use Rattle.pdllrw.specs.NamedRows.{rows_of}
 use Rattle.pdllrw.specs.View.{seen_run}
-use Rattle.pdllrw.specs.declared.status.Status.TheVariants as statuses
 use Rattle.pdllrw.specs.Accepted.{AcceptsPatterns, AcceptsModule}
 use Rattle.pdllrw.specs.Texts.{module_text, log_text}
-use Rattle.pdllrw.specs.Outcome.{Outside, Command, Rewrites, IsOutcome}
-use Rattle.pdllrw.proofs.Outcomes.{refused, stopped, patterns_stop, module_stops, shown, rises, stops_since}
-use Rattle.pdllrw.proofs.Allowed.{never_the_module}
+use Rattle.pdllrw.specs.Outcome.{Command, Rewrites}
+use Rattle.pdllrw.proofs.Outcomes.{refused_words, stopped, patterns_stop, module_stops, shown, stops_since}
 use Rattle.pdllrw.proofs.run.run.Goals as goal
 
 pub returns-in_default : goal.returns-in_default
 returns-in_default g c =
-    refused _ _ _ statuses.Usage c.refuse.result (sym c.command.ensures ∙ ap (option_map (λ x. (x.0.now, x.1.now))) c.in_default.is) refl c.refuse.ensures.tells
+    refused_words _ _ _ c.placeless.result.place c.placeless.result.status c.refuse.result c.placeless.ensures.status (sym c.command.ensures ∙ ap (option_map (λ x. (x.0.now, x.1.now))) c.in_default.is) refl c.refuse.ensures.tells
 
 pub returns-in-Err : goal.returns-in-Err
 returns-in-Err g c =
     let stop = c.in-Err.ensures.stopped in
     let command : Command (map string_bytes c.args.words.now) = record { patterns = c.in-Some.patterns_name.now; module_file = c.in-Some.module_name.now; is_command = sym c.in-Some.ensures } in
-    stopped _ _ _ c.in-Err.status c.refuse-in-Err.result (patterns_stop _ _ _ command c.in-Err.status stop) refl c.refuse-in-Err.ensures.tells c.refuse-in-Err.ensures.silent
+    stopped _ _ _ c.in-Err.stop.place c.in-Err.stop.status c.refuse-in-Err.result (patterns_stop _ _ _ command c.in-Err.stop.place c.in-Err.stop.status stop) refl c.refuse-in-Err.ensures.tells c.refuse-in-Err.ensures.silent
 
 pub returns-in-Err-read_module : goal.returns-in-Err-read_module
 returns-in-Err-read_module g c =
@@ -32,13 +29,13 @@ returns-in-Err-read_module g c =
     let name = c.in-Some.module_name.now in
     let command : Command (map string_bytes c.args.words.now) = record { patterns = c.in-Some.patterns_name.now; module_file = name; is_command = sym c.in-Some.ensures } in
     let since = stops_since (g.H.Host.file c.args.host.now name) (g.H.Host.file c.read_patterns.new.host name) (g.H.Host.faults c.args.host.now name) (g.H.Host.faults c.read_patterns.new.host name) (g.H.Host.faults c.read_module.new.host name)
-    c.in-Err-read_module.status (c.read_patterns.ensures.files name) (c.read_patterns.ensures.never_falls name) stop in
-    stopped _ _ _ c.in-Err-read_module.status c.refuse-in-Err-read_module.result (module_stops _ _ _ command (views c.in-Ok.patterns.items) found c.in-Err-read_module.status since) refl
+    c.in-Err-read_module.stop.status (c.read_patterns.ensures.files name) (c.read_patterns.ensures.never_falls name) stop in
+    stopped _ _ _ c.in-Err-read_module.stop.place c.in-Err-read_module.stop.status c.refuse-in-Err-read_module.result (module_stops _ _ _ command (views c.in-Ok.patterns.items) found c.in-Err-read_module.stop.place c.in-Err-read_module.stop.status since) refl
     c.refuse-in-Err-read_module.ensures.tells c.refuse-in-Err-read_module.ensures.silent
 
 pub drive-requires-clause-not_the_module : goal.drive-requires-clause-not_the_module
 drive-requires-clause-not_the_module g c =
-    never_the_module (views c.deref.result.now) (ap (λ ps. are_allowed (views ps)) c.deref.ensures.value ∙ c.in-Ok.ensures.allowed)
+    ap (λ ps. best (views ps) (codes "builtin.module")) c.deref.ensures.value ∙ c.in-Ok.ensures.allowed
 
 pub returns : goal.returns
 returns g c =

@@ -1,6 +1,6 @@
 use Rattle.std.proofs.Common.{◌≡◌, ◌++◌, length, ◌∙◌}
 use Rattle.std.proofs.lemmas.Result.{err_from_is_err_and}
-use Rattle.pdll_parser.specs.View.{views}
+use Rattle.pdllrw.specs.Patterns.{views}
 use Rattle.pdllrw.specs.View.{seen_run}
 use Rattle.pdllrw.specs.Texts.{header, step_lines, ending_line, log_text}
 use Rattle.rw_outside.proofs.Putting.{put_starts, put_goes_on, puts_fails, puts_last}

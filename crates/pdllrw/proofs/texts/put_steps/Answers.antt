@@ -1,8 +1,8 @@
-use Rattle.std.proofs.Common.{◌≡◌, ◌+◌, ◌<◌, ◌≤◌, ◌++◌, List, ℕ, drop, length, get_or, [], sym, ◌∙◌, ap, subst, arith}
+use Rattle.std.proofs.Common.{◌≡◌, ◌+◌, ◌<◌, ◌≤◌, ◌++◌, List, ℕ, drop, length, get_or, [], subst}
 use Rattle.std.proofs.lemmas.List.{at_drop_more, at_drop_all}
 use Rattle.std.proofs.lemmas.Result.{err_from_is_err_and}
-use Rattle.pdll_parser.specs.Patterns.{Erasing}
-use Rattle.pdll_parser.specs.View.{views}
+use Rattle.pdllrw.specs.Patterns.{Erasing}
+use Rattle.pdllrw.specs.Patterns.{views}
 use Rattle.pdllrw.specs.declared.driver.Hit.{Hit}
 use Rattle.pdllrw.specs.Texts.{step_line, step_lines}
 use Rattle.rw_outside.proofs.Putting.{PutSoFar, put_goes_on, put_ends, puts_fails}

@@ -1,5 +1,5 @@
 use Rattle.std.proofs.Common.{◌+◌, drop}
-use Rattle.pdll_parser.specs.View.{views}
+use Rattle.pdllrw.specs.Patterns.{views}
 use Rattle.pdllrw.specs.Texts.{step_lines}
 use Rattle.rw_outside.proofs.Putting.{PutSoFar}
 use Rattle.pdllrw.proofs.texts.put_steps.Given as goal

@@ -1,0 +1,102 @@
+-- Patterns that are found one by one, and that none of them names the module itself.
+use Rattle.std.proofs.Common.{◌≡◌, ℕ, ◌+◌, Bool, true, false, cond, List, [], ◌∷◌, ◌++◌, Option, Some, None, Result, Ok, Err, codes, refl, sym, ◌∙◌, ap, append_assoc}
+use Rattle.std.specs.List.{position_from}
+use Rattle.std.specs.Str.{bytes_eq}
+use Rattle.pdll_syntax.specs.declared.file.PatFile.{PatFile}
+use Rattle.pdll_syntax.specs.declared.file.Decl.{Decl}
+use Rattle.pdll_syntax.specs.declared.file.Decl.TheVariants as decl
+use Rattle.pdll_syntax.specs.declared.file.Meta.{Meta}
+use Rattle.pdll_syntax.specs.ExprTree.{Expr, expr, ExprForm, member_expr, Entry, entries}
+use Rattle.pdll_syntax.specs.ExprView.{with_members}
+use Rattle.pdllrw.specs.Patterns.{are_some, if_no_entries, expr_name, Erasing, without_metas, named_erasing, label_text, body_name, pattern_erasing, decl_erasing, erasing_then, all_erasing, are_distinct, if_distinct, built}
+use Rattle.std.specs.Prelude.{IfOk}
+use Rattle.pdllrw.specs.Accepted.{AcceptsPatterns}
+use Rattle.pdllrw.specs.Run.{best}
+
+pub some_entries : (es : List Entry) (name : Option (List ℕ)) → are_some es ≡ true → if_no_entries (entries es) name ≡ None
+some_entries [] name h = absurd (cc)
+some_entries (x ∷ xs) name h = refl
+
+pub no_entries_left : (es : List Entry) (name : Option (List ℕ)) → are_some es ≡ false → if_no_entries (entries es) name ≡ name
+no_entries_left [] name h = refl
+no_entries_left (x ∷ xs) name h = absurd (cc)
+
+behind_member : (at to : ℕ) (x : Expr) (k : ℕ) (ks : List ℕ) → expr_name (expr to (with_members at (member_expr x k) ks)) ≡ None
+behind_member at to x k [] = refl
+behind_member at to x k (j ∷ ks) = behind_member at to (expr at (member_expr x k)) j ks
+
+pub some_members : (at to : ℕ) (f : ExprForm) (ks : List ℕ) → are_some ks ≡ true → expr_name (expr to (with_members at f ks)) ≡ None
+some_members at to f [] h = absurd (cc)
+some_members at to f (k ∷ ks) h = behind_member at to (expr at f) k ks
+
+pub no_members : (at : ℕ) (f : ExprForm) (ks : List ℕ) → are_some ks ≡ false → with_members at f ks ≡ f
+no_members at f [] h = refl
+no_members at f (k ∷ ks) h = absurd (cc)
+
+-- patterns behind those that were found
+abbrev pub behind : List Erasing → Option (List Erasing) → Option (List Erasing)
+behind found None = None
+behind found (Some ps) = Some (found ++ ps)
+
+pub one_more : (found : List Erasing) (p : Erasing) (more : Option (List Erasing)) → behind found (erasing_then (Some p) more) ≡ behind (found ++ p ∷ []) more
+one_more found p None = refl
+one_more found p (Some ps) = ap Some (sym (append_assoc found (p ∷ []) ps))
+
+-- ---- the module is never named
+
+abbrev module_name : List ℕ
+module_name = codes "builtin.module"
+
+abbrev Other : Erasing → Type 0
+Other p = bytes_eq p.op module_name ≡ false
+
+erasing_other : (label op : List ℕ) (p : Erasing) (b : Bool) → bytes_eq op module_name ≡ b → cond b None (Some (record { label = label; op = op })) ≡ Some p → Other p
+erasing_other label op p true h e = absurd (cc)
+erasing_other label op p false h e = let same : op ≡ p.op = cc in ap (λ o. bytes_eq o module_name) (sym same) ∙ h
+
+named_other : (label : List ℕ) (o : Option (List ℕ)) (p : Erasing) → named_erasing label o ≡ Some p → Other p
+named_other label None p e = absurd (cc)
+named_other label (Some op) p e = erasing_other label op p (bytes_eq op module_name) refl e
+
+metas_other : (ms : List Meta) (label : List ℕ) (o : Option (List ℕ)) (p : Erasing) → without_metas ms (named_erasing label o) ≡ Some p → Other p
+metas_other [] label o p e = named_other label o p e
+metas_other (m ∷ ms) label o p e = absurd (cc)
+
+decl_other : (d : Decl) (p : Erasing) → decl_erasing d ≡ Some p → Other p
+unfolding pattern_erasing
+decl_other (decl.Pattern d) p e = metas_other d.metas (label_text d.name) (body_name d.body) p e
+decl_other (decl.Constraint c) p e = absurd (cc)
+decl_other (decl.Rewrite c) p e = absurd (cc)
+
+abbrev NoneNames : List Erasing → ℕ → Type 0
+NoneNames ps i = position_from (λ p. bytes_eq p.op module_name) i ps ≡ None
+
+then_other : (p o : Option Erasing) (more : Option (List Erasing)) (ps : List Erasing) (i : ℕ) → ((q : Erasing) → p ≡ Some q → Other q)
+    → ((qs : List Erasing) (j : ℕ) → more ≡ Some qs → NoneNames qs j) → erasing_then p more ≡ Some ps → NoneNames ps i
+then_other None o more ps i one rest e = absurd (cc)
+then_other (Some q) o None ps i one rest e = absurd (cc)
+then_other (Some q) o (Some qs) ps i one rest e =
+    let same : q ∷ qs ≡ ps = cc in
+    ap (λ xs. position_from (λ p. bytes_eq p.op module_name) i xs) (sym same)
+    ∙ (ap (λ b. cond b (Some i) (position_from (λ (p : Erasing). bytes_eq p.op module_name) (i + 1) qs)) (one q refl) ∙ rest qs (i + 1) refl)
+
+all_other : (ds : List Decl) (ps : List Erasing) (i : ℕ) → all_erasing ds ≡ Some ps → NoneNames ps i
+all_other [] ps i e = let same : [] ≡ ps = cc in ap (λ xs. position_from (λ p. bytes_eq p.op module_name) i xs) (sym same)
+all_other (d ∷ ds) ps i e = then_other (decl_erasing d) None (all_erasing ds) ps i (decl_other d) (λ qs j. all_other ds qs j) e
+
+distinct_other : (o : Option (List Erasing)) (ps : List Erasing) → ((qs : List Erasing) → o ≡ Some qs → NoneNames qs 0) → if_distinct o ≡ Some ps → NoneNames ps 0
+distinct_other None ps all e = absurd (cc)
+distinct_other (Some qs) ps all e = by_test (are_distinct qs) e
+  where
+    by_test : (b : Bool) → cond b (Some qs) None ≡ Some ps → NoneNames ps 0
+    by_test true h = let same : qs ≡ ps = cc in ap (λ xs. position_from (λ p. bytes_eq p.op module_name) 0 xs) (sym same) ∙ all qs refl
+    by_test false h = absurd (cc)
+
+pub never_the_module : (file : PatFile) (ps : List Erasing) → built file ≡ Some ps → best ps (codes "builtin.module") ≡ None
+unfolding built
+never_the_module file ps e = distinct_other (all_erasing file.decls) ps (λ qs h. all_other file.decls qs 0 h) e
+
+-- patterns that are accepted never name the module
+pub allowed : {A E : Type 0} (patterns : A → List Erasing) (r : Result A E) (bytes : List ℕ) → IfOk r (λ v. AcceptsPatterns (patterns v) bytes) → IfOk r (λ v. best (patterns v) (codes "builtin.module") ≡ None)
+allowed patterns (Ok v) bytes h = never_the_module h.file (patterns v) h.are_built
+allowed patterns (Err e) bytes h = tt

@@ -1,0 +1,200 @@
+// The patterns that are built: those that erase each operation of one name.
+ghost use Rattle.std.specs.Prelude.{◌≡◌, IfOk, Option, List, map, Bool};
+ghost use Rattle.std.specs.Option.{option_map};
+ghost use Rattle.std.specs.List.{list_any};
+ghost use Rattle.std.specs.Str.{bytes_eq};
+ghost use Rattle.pdllrw.specs.Patterns as spec;
+ghost use Rattle.pdllrw.specs.Patterns.{view, views};
+
+use pdll_syntax::expr::{Entry, Expr, ExprForm, OpExpr};
+use pdll_syntax::file::{Decl, PatFile, PatternDecl};
+use pdll_syntax::name::{Name, Text};
+use pdll_syntax::stmt::{Body, Stmt, StmtForm};
+use std::alloc::{AllocError, Global};
+
+/// A pattern that erases each operation of one name.
+#[derive(Debug, Drop)]
+pub struct Pattern {
+    /// Empty where the pattern has no name.
+    pub label: Vec<u8>,
+    pub op: Vec<u8>,
+}
+
+fn are_some(entries: &[Entry]) -> bool
+    ensures { result ≡ spec.are_some entries.now }
+{
+    match entries {
+        [] => false,
+        [_, ..] => true,
+    }
+}
+
+#[tactic(auto, using(crate::proofs::Built::some_entries, crate::proofs::Built::no_entries_left))]
+fn op_name(op: &OpExpr) -> Option<&Text>
+    ensures { option_map (λ t. t.now) result ≡ spec.op_name op.now }
+{
+    if let Some(_) = &op.operands {
+        return None;
+    }
+    if are_some(op.entries.as_slice()) {
+        return None;
+    }
+    match &op.types {
+        Some(_) => None,
+        None => Some(&op.name),
+    }
+}
+
+fn has_members(members: &[u16]) -> bool
+    ensures { result ≡ spec.are_some members.now }
+{
+    match members {
+        [] => false,
+        [_, ..] => true,
+    }
+}
+
+#[tactic(auto, using(crate::proofs::Built::some_members, crate::proofs::Built::no_members))]
+fn expr_name(expr: &Expr) -> Option<&Text>
+    ensures { option_map (λ t. t.now) result ≡ spec.expr_name expr.now }
+{
+    if has_members(expr.members.as_slice()) {
+        return None;
+    }
+    match &expr.form {
+        ExprForm::Op(op) => op_name(op),
+        _ => None,
+    }
+}
+
+fn erased_name(stmt: &Stmt) -> Option<&Text>
+    ensures { option_map (λ t. t.now) result ≡ spec.erased_name stmt.now }
+{
+    match &stmt.form {
+        StmtForm::Erase(expr) => expr_name(expr),
+        _ => None,
+    }
+}
+
+fn only_erased(stmts: &[Stmt]) -> Option<&Text>
+    ensures { option_map (λ t. t.now) result ≡ spec.only_erased stmts.now }
+{
+    match stmts {
+        [stmt] => erased_name(stmt),
+        _ => None,
+    }
+}
+
+fn body_name(body: &Body) -> Option<&Text>
+    ensures { option_map (λ t. t.now) result ≡ spec.body_name body.now }
+{
+    match body {
+        Body::One(stmt) => erased_name(stmt),
+        Body::Braces(stmts, _) => only_erased(stmts.as_slice()),
+        Body::Absent | Body::Value(_) => None,
+    }
+}
+
+fn label(alloc: Global, name: &Option<Name>) -> Result<Vec<u8>, AllocError>
+    ensures { IfOk result (λ v. v.items ≡ spec.label_text name.now) }
+{
+    match name {
+        None => Ok(Vec::new(alloc)),
+        Some(name) => Vec::from_slice(alloc, name.text.as_slice()),
+    }
+}
+
+fn is_text(bytes: &[u8], text: &[u8]) -> bool
+    ensures { result ≡ bytes_eq bytes.now text.now }
+{
+    bytes == text
+}
+
+fn erasing(alloc: Global, name: &Option<Name>, op: &[u8]) -> Result<Option<Pattern>, AllocError>
+    ensures { IfOk result (λ o. option_map view o ≡ spec.erasing (spec.label_text name.now) op.now) }
+{
+    if is_text(op, b"builtin.module") {
+        return Ok(None);
+    }
+    let label = label(alloc, name)?;
+    let op = Vec::from_slice(alloc, op)?;
+    Ok(Some(Pattern { label, op }))
+}
+
+#[tactic(auto, unfolding(crate::specs::Patterns::pattern_erasing))]
+fn pattern_erasing(alloc: Global, pattern: &PatternDecl) -> Result<Option<Pattern>, AllocError>
+    ensures { IfOk result (λ o. option_map view o ≡ spec.pattern_erasing pattern.now) }
+{
+    if !pattern.metas.is_empty() {
+        return Ok(None);
+    }
+    match body_name(&pattern.body) {
+        None => Ok(None),
+        Some(op) => erasing(alloc, &pattern.name, op.as_slice()),
+    }
+}
+
+fn decl_erasing(alloc: Global, decl: &Decl) -> Result<Option<Pattern>, AllocError>
+    ensures { IfOk result (λ o. option_map view o ≡ spec.decl_erasing decl.now) }
+{
+    match decl {
+        Decl::Pattern(pattern) => pattern_erasing(alloc, pattern),
+        Decl::Constraint(_) | Decl::Rewrite(_) => Ok(None),
+    }
+}
+
+fn all_erasing(alloc: Global, decls: &[Decl]) -> Result<Option<Vec<Pattern>>, AllocError>
+    ensures { IfOk result (λ o. option_map (λ v. views v.items) o ≡ spec.all_erasing decls.now) }
+{
+    let mut found = Vec::new(alloc);
+    for decl in decls {
+        let Some(pattern) = decl_erasing(alloc, decl)? else {
+            return Ok(None);
+        };
+        found.push(pattern)?;
+    }
+    Ok(Some(found))
+}
+
+fn is_named(label: &[u8]) -> bool
+    ensures { result ≡ spec.is_named label.now }
+{
+    match label {
+        [] => false,
+        [_, ..] => true,
+    }
+}
+
+fn has_label(patterns: &[Pattern], label: &[u8]) -> bool
+    ensures { result ≡ spec.has_label label.now (views patterns.now) }
+{
+    for p in patterns {
+        if p.label.as_slice() == label {
+            return true;
+        }
+    }
+    false
+}
+
+fn are_distinct(patterns: &[Pattern]) -> bool
+    ensures { result ≡ spec.are_distinct (views patterns.now) }
+{
+    for (i, p) in patterns.iter().enumerate() {
+        if is_named(&p.label) && has_label(&patterns[i + 1..], &p.label) {
+            return false;
+        }
+    }
+    true
+}
+
+/// The patterns of a file, where each declaration erases the operations of one name, which isn't that of a module,
+/// and no two have one name.
+#[tactic(auto, unfolding(crate::specs::Patterns::built))]
+pub fn built(alloc: Global, file: &PatFile) -> Result<Option<Vec<Pattern>>, AllocError>
+    ensures { IfOk result (λ o. option_map (λ v. views v.items) o ≡ spec.built file.now) }
+{
+    match all_erasing(alloc, file.decls.as_slice())? {
+        Some(patterns) if are_distinct(&patterns) => Ok(Some(patterns)),
+        _ => Ok(None),
+    }
+}
