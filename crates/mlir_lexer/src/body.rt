@@ -41,7 +41,8 @@ fn is_close(b: u8) -> bool
     b == b')' || (b == b']' || b == b'}')
 }
 
-fn closer_of(b: u8) -> u8
+/// What closes the bracket that this byte opens.
+pub fn closer_of(b: u8) -> u8
     requires { b ≤ 123 }
     ensures { result ≡ closer b }
 {
@@ -54,7 +55,9 @@ fn byte_at(bytes: &[u8], at: usize) -> u8
     if at < bytes.len() { bytes[at] } else { 0 }
 }
 
-fn effect_of(b: u8, next: u8, dash: bool, innermost: u8) -> Effect
+/// What a byte outside strings does, before this next byte, where the byte before is `-` or not, and this closes the
+/// innermost bracket.
+pub fn effect_of(b: u8, next: u8, dash: bool, innermost: u8) -> Effect
     ensures { result ≡ effect_of b next dash innermost }
 {
     if is_open(b, next) {

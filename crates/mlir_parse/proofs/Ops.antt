@@ -1,17 +1,15 @@
 -- What is read is spelled so, and what is spelled so is read.
-use Rattle.std.proofs.Common.{◌≡◌, ℕ, zero, suc, ◌+◌, ◌≤◌, ◌<◌, Bool, true, false, cond, eqb, List, [], ◌∷◌, ◌++◌, length, take, drop, Option, Some, None, refl, sym, ap, subst, ◌∙◌, append_assoc, arith, take-append-drop, append-nil, length-append}
+use Rattle.std.proofs.Common.{◌≡◌, ℕ, zero, suc, ◌≤◌, ◌<◌, Bool, true, false, cond, eqb, List, [], ◌∷◌, ◌++◌, length, take, drop, Some, None, refl, sym, ap, subst, ◌∙◌, append_assoc, arith, take-append-drop, length-append}
 use Rattle.std.specs.List.{prefix_len, AllByRecursion}
-use Rattle.std.proofs.lemmas.List.{take_at, drop_at, nil_from_length}
-use Rattle.std.proofs.lemmas.Bool.{false≢true, eqb-true}
+use Rattle.std.proofs.lemmas.List.{take_at, drop_at}
+use Rattle.std.proofs.lemmas.Bool.{false≢true}
 use Rattle.std.proofs.lemmas.Bool.Decides.{nat_tests}
 use Rattle.std.proofs.lemmas.List.Folds.{length-prefix_len}
 use Rattle.std.specs.Global.{Vec}
-use Rattle.text_scan.specs.Bytes.{is_space}
 use Rattle.text_marks.specs.Bytes.{is_op_name_byte}
 use Rattle.text_marks.specs.Reading.{◌>>=◌, after_gap, behind, behind_marks}
-use Rattle.text_marks.specs.Spelling.{IsGap, IsMark, AreMarks, Stops}
-use Rattle.text_marks.proofs.Laws.{bind_some, front_passes, rest_stops, len_is, gap_takes, gap_again, all_gap, gap_all, behind_takes, behind_again, marks_take, marks_again, mark_takes, mark_again}
-use Rattle.text_marks.specs.Items.{AreItems}
+use Rattle.text_marks.specs.Spelling.{IsGap, AreMarks}
+use Rattle.text_marks.proofs.Laws.{bind_some, front_passes, len_is, gap_again, gap_all, behind_takes, behind_again, marks_take, marks_again, mark_takes}
 use Rattle.text_marks.proofs.Items.{Reads, ReadsOn, one_more}
 use Rattle.mlir_parse.specs.Module.{op_marks, IsOpName, quoted, IsOp, IsModule, texts}
 use Rattle.mlir_parse.specs.Reading.{quote, op_at}

@@ -6,7 +6,30 @@ ghost use Rattle.std.specs.Option.{option_map};
 ghost use Rattle.mlir_parse.specs.Module.{IsModule, texts};
 ghost use Rattle.mlir_parse.specs.Reading.{op_at};
 
+mod aliases;
+mod attributes;
+mod dictionary;
+pub mod fault;
+mod file;
+mod kept_text;
+mod locations;
+#[cfg(test)]
+mod module_tests;
+mod nesting;
+mod numbers;
+mod operations;
+mod parse;
+mod placed;
+mod reader;
+pub mod syn;
+#[cfg(test)]
+mod tests;
+mod types;
+
+pub use dictionary::entries_are_kept;
+pub use file::parse_module_text;
 use mlir_tree::refusal::Refusal;
+pub use parse::{parse_attr, parse_ty};
 use std::alloc::Global;
 use text_marks::{after_gap, behind, behind_marks, name_len};
 

@@ -1,0 +1,17 @@
+use Rattle.mlir_parse.specs.Attributes.{attr_of}
+use Rattle.mlir_parse.specs.AttributeGrammar.{IsAttrText}
+use Rattle.mlir_parse.specs.Faults.{is_attr_fault}
+use Rattle.mlir_parse.proofs.Whole.{found_by, only_by, kinds_by}
+use Rattle.mlir_parse.proofs.Causes.{attr_text_faults}
+use Rattle.mlir_parse.proofs.AttrsSound.{attr_text_sound}
+use Rattle.mlir_parse.proofs.AttrsComplete.{attr_text_complete}
+use Rattle.mlir_parse.proofs.parse.parse_attr.Goals as goal
+
+pub returns-in-Ok-clause-found : goal.returns-in-Ok-clause-found
+returns-in-Ok-clause-found c = found_by IsAttrText attr_of attr_text_sound c.args.bytes.now c.whole_attr.result c.in-Ok.ensures.cases.1 c.whole_attr.ensures
+
+pub returns-in-Ok-clause-only : goal.returns-in-Ok-clause-only
+returns-in-Ok-clause-only c = λ t h. only_by IsAttrText attr_of attr_text_complete c.args.bytes.now c.whole_attr.result t c.whole_attr.ensures h
+
+pub returns-in-Ok-clause-kinds : goal.returns-in-Ok-clause-kinds
+returns-in-Ok-clause-kinds c = kinds_by IsAttrText attr_of is_attr_fault attr_text_faults c.args.bytes.now c.whole_attr.result c.whole_attr.ensures
