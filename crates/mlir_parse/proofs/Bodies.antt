@@ -71,7 +71,7 @@ end_within bytes at depth end inside h =
 
 -- ---- reading a body
 
-opens_inside : (bytes : List ℕ) (at : ℕ) → opens_body bytes at ≡ true → at < length bytes
+pub opens_inside : (bytes : List ℕ) (at : ℕ) → opens_body bytes at ≡ true → at < length bytes
 opens_inside bytes at h = inside bytes at (and_parts (slice_index bytes at == 60) (not (slice_index bytes (at + 1) == 61)) h).0
   where
     inside : (bytes : List ℕ) (at : ℕ) → (slice_index bytes at == 60) ≡ true → at < length bytes

@@ -1,9 +1,11 @@
 -- What is read as a module file is spelled so.
-use Rattle.std.proofs.Common.{◌≡◌, ℕ, zero, suc, Bool, true, false, cond, List, [], ◌∷◌, ◌++◌, refl, ap, sym, subst, ◌∙◌, Result, Ok, Err, append_assoc, append-nil, arith}
-use Rattle.std.specs.Prelude.{◌||◌, Option, Some, None, IsUtf8}
+use Rattle.std.proofs.Common.{◌≡◌, ℕ, zero, suc, Bool, true, false, cond, List, [], ◌∷◌, ◌++◌, length, refl, ap, sym, subst, ◌∙◌, Result, Ok, Err, IfOk, append_assoc, append-nil, arith}
+use Rattle.std.specs.Prelude.{◌||◌, ◌==◌, Option, Some, None, IsUtf8}
+use Rattle.std.specs.Str.Lossy.{utf8_valid_len}
 use Rattle.std.specs.Option.{is_some}
 use Rattle.mlir_lexer.specs.declared.token.TokenKind.{TokenKind}
 use Rattle.mlir_lexer.specs.declared.token.TokenKind.TheVariants as k
+use Rattle.mlir_tree.specs.declared.refusal.Refusal.{Refusal}
 use Rattle.mlir_parse.specs.declared.fault.ModFault.{ModFault}
 use Rattle.mlir_parse.specs.declared.fault.ModKind.TheVariants as faults
 use Rattle.mlir_parse.specs.declared.aliases.Alias.{Alias}
@@ -11,7 +13,7 @@ use Rattle.mlir_parse.specs.declared.aliases.Meaning.{Meaning}
 use Rattle.mlir_parse.specs.declared.aliases.Meaning.TheVariants as meanings
 use Rattle.mlir_parse.specs.declared.syn.Syn.{Syn}
 use Rattle.mlir_parse.specs.Place.{Place, fault, left, sees, start, spelling, next, start_of}
-use Rattle.mlir_parse.specs.Input.{Outcome, Parser, expect, refuse, lift, pure, take_token, ◌>>=◌, ◌>>◌, ◌<$>◌}
+use Rattle.mlir_parse.specs.Input.{Outcome, Parser, Gives, expect, refuse, lift, pure, take_token, ◌>>=◌, ◌>>◌, ◌<$>◌}
 use Rattle.mlir_parse.specs.Aliases.{find, has_point}
 use Rattle.mlir_parse.specs.Types.{ty, max_open}
 use Rattle.mlir_parse.specs.Attributes.{attr}
@@ -29,6 +31,7 @@ use Rattle.mlir_parse.proofs.AttrsSound.{attr_sound}
 use Rattle.mlir_parse.proofs.PartsSound.{lifted}
 use Rattle.mlir_parse.proofs.RulesSound.{loc_word, location_sound}
 use Rattle.mlir_parse.proofs.RegionsSound.{operation_sound}
+use Rattle.mlir_parse.proofs.Utf8.{utf8_all}
 
 -- ---- definitions
 
@@ -156,9 +159,9 @@ or_file : Syn → Result Syn ModFault → Syn
 or_file x (Ok y) = y
 or_file x (Err e) = x
 
-file_found : (bytes : List ℕ) (file : Syn) (o : Outcome (List Operation)) → IsUtf8 bytes → read.all_operations (start_of bytes) ≡ o → read.file_of o ≡ Ok file → IsModuleFile bytes file
+operations_found : (bytes : List ℕ) (file : Syn) (o : Outcome (List Operation)) → IsUtf8 bytes → read.all_operations (start_of bytes) ≡ o → read.file_of o ≡ Ok file → IsModuleFile bytes file
 unfolding or_file
-file_found bytes file (Ok p) text is h =
+operations_found bytes file (Ok p) text is h =
     let (xs, same, are, inside, ends) = file_operations_sound (left (start_of bytes)) [] [] p.0 (start_of bytes) p.1 (omega arith) is in
     let end = taken k.End p.1 inside ends in
     subst (IsModuleFile bytes) (ap (or_file file) h) (record {
@@ -168,9 +171,22 @@ file_found bytes file (Ok p) text is h =
       operations = subst (λ ops. AreFileOperations [] (start_of bytes) ops p.1) (sym same) are;
       ends = (spelling p.1, end.0);
     })
-file_found bytes file (Err e) text is h = absurd (cc)
+operations_found bytes file (Err e) text is h = absurd (cc)
 
 -- What is read of a whole text is the module file that it spells.
-pub file_sound : (bytes : List ℕ) (file : Syn) → IsUtf8 bytes → read.file_in bytes ≡ Ok file → IsModuleFile bytes file
+file_sound : (bytes : List ℕ) (file : Syn) → IsUtf8 bytes → read.file_in bytes ≡ Ok file → IsModuleFile bytes file
 unfolding read.file_in
-file_sound bytes file text h = file_found bytes file (read.all_operations (start_of bytes)) text refl h
+file_sound bytes file text h = operations_found bytes file (read.all_operations (start_of bytes)) text refl h
+
+whole_by : (bytes : List ℕ) (file : Syn) (b : Bool) → (utf8_valid_len bytes == length bytes) ≡ b → cond b (read.file_in bytes) (Err (fault faults.NotUtf8 (utf8_valid_len bytes))) ≡ Ok file → IsModuleFile bytes file
+whole_by bytes file true is h = file_sound bytes file (utf8_all bytes is) h
+whole_by bytes file false is h = absurd (cc)
+
+pub whole_sound : (bytes : List ℕ) (file : Syn) → read.module_file bytes ≡ Ok file → IsModuleFile bytes file
+unfolding read.module_file
+whole_sound bytes file h = whole_by bytes file (utf8_valid_len bytes == length bytes) refl h
+
+-- what a call reads
+pub file_found : (bytes : List ℕ) (r : Result Syn (Refusal ModFault)) → Gives r (read.module_file bytes) → IfOk r (λ file. IsModuleFile bytes file)
+file_found bytes (Ok file) e = whole_sound bytes file e
+file_found bytes (Err e) h = tt

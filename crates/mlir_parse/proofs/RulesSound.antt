@@ -81,7 +81,7 @@ module _ (bytes : List ℕ) (room : ℕ) where
   balanced_by n at end depth go inside false false false d true false is h = go (depth - 1) (at + 1) (let below = not_le (length bytes) at is in omega (arith, below)) h
   balanced_by n at end depth go inside false false false d false f is h = go depth (at + 1) (let below = not_le (length bytes) at is in omega (arith, below)) h
 
-  balanced_within : (n end depth at : ℕ) → at ≤ length bytes → balanced n bytes room depth at ≡ Ok end → end ≤ length bytes
+  pub balanced_within : (n end depth at : ℕ) → at ≤ length bytes → balanced n bytes room depth at ≡ Ok end → end ≤ length bytes
   unfolding balanced
   balanced_within zero end depth at inside h = absurd (cc)
   balanced_within (suc n) end depth at inside h =

@@ -16,6 +16,3 @@ module _ {A : Type 0} (P : List ℕ → A → Type 0) (read : List ℕ → Resul
   only_by complete bytes (Ok u) t e h = sym (complete bytes t h) ∙ e
   only_by complete bytes (Err refusals.NoMemory) t e h = tt
   only_by complete bytes (Err (refusals.Fault f)) t e h = sym (complete bytes t h) ∙ e
-
-  pub kinds_by : (K : ModKind → Bool) → ((bytes : List ℕ) (f : ModFault) → read bytes ≡ Err f → K f.kind ≡ true) → (bytes : List ℕ) (r : Result A (Refusal ModFault)) → Gives r (read bytes) → (f : ModFault) → r ≡ Err (refusals.Fault f) → K f.kind ≡ true
-  kinds_by K all bytes r e f is = all bytes f (subst (λ r. Gives r (read bytes)) is e)

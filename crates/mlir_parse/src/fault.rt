@@ -6,6 +6,8 @@ ghost use Rattle.mlir_parse.specs.Faults.{code_text};
 /// What is wrong with a module file.
 #[derive(Clone, Copy, Debug, PartialEq, Eq)]
 pub enum ModKind {
+    /// The file is a module that isn't built yet.
+    NotBuilt,
     /// The file has more bytes than the limit.
     TooLong,
     /// The bytes aren't UTF-8.
@@ -34,6 +36,20 @@ pub enum ModKind {
     DictTwice,
     /// A limit is passed.
     TooMany,
+    /// No value of the name is in the file.
+    Undefined,
+    /// A name that stands in the region already.
+    Redefined,
+    /// The name is in the file, and isn't in sight.
+    NotVisible,
+    /// A use of a value behind those of the name.
+    ResultIndex,
+    /// An operand whose type isn't that of the value.
+    TypeDiffers,
+    /// Another number of types than of operands, or of results that are named.
+    CountDiffers,
+    /// An attribute with the name of a property.
+    PropAndAttr,
 }
 
 /// A fault and its place.
@@ -50,6 +66,7 @@ impl ModKind {
         ensures { result.now ≡ code_text self }
     {
         match self {
+            ModKind::NotBuilt => b"M0 NotBuilt",
             ModKind::TooLong => b"M1 TooLong",
             ModKind::NotUtf8 => b"M2 NotUtf8",
             ModKind::BadByte => b"M3 BadByte",
@@ -64,6 +81,13 @@ impl ModKind {
             ModKind::AliasTwice => b"M12 AliasTwice",
             ModKind::DictTwice => b"M13 DictTwice",
             ModKind::TooMany => b"M14 TooMany",
+            ModKind::Undefined => b"M15 Undefined",
+            ModKind::Redefined => b"M16 Redefined",
+            ModKind::NotVisible => b"M17 NotVisible",
+            ModKind::ResultIndex => b"M18 ResultIndex",
+            ModKind::TypeDiffers => b"M19 TypeDiffers",
+            ModKind::CountDiffers => b"M20 CountDiffers",
+            ModKind::PropAndAttr => b"M21 PropAndAttr",
         }
     }
 }

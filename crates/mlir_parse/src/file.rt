@@ -1,7 +1,11 @@
 //! Alias definitions and module files.
 
-ghost use Rattle.std.specs.Prelude.{◌≡◌, IfOk, ℕ, List, [], length};
+ghost use Rattle.std.specs.Prelude.{◌≡◌, ◌≤◌, IfOk, ℕ, List, [], length, true, Ok, Err};
 ghost use Rattle.std.specs.Str.Lossy.{utf8_valid_len};
+ghost use Rattle.mlir_parse.specs.declared.fault.ModFault.{ModFault as Fault};
+ghost use Rattle.mlir_parse.specs.declared.syn.Syn.{Syn as Read};
+ghost use Rattle.mlir_parse.specs.Faults.{is_spelling_fault};
+ghost use Rattle.mlir_parse.specs.Limits.{KeepsLimits};
 ghost use Rattle.mlir_parse.specs.Input.{Reads, Gives};
 ghost use Rattle.mlir_parse.specs.ModuleFile as spec;
 ghost use Rattle.mlir_parse.specs.FileGrammar.{IsModuleFile};
@@ -143,19 +147,31 @@ fn file(alloc: Global, bytes: &[u8]) -> Result<Syn, Refused>
     Ok(Syn { ops })
 }
 
-/// The operations of a module file, or its first fault.
 #[tactic(auto, unfolding(crate::specs::ModuleFile::module_file), using(crate::proofs::Utf8::all_utf8, crate::proofs::Utf8::not_utf8))]
-pub fn parse_module_text(alloc: Global, bytes: &[u8]) -> Result<Syn, Refusal<ModFault>>
-    // What is read is spelled so.
-    ensures found { IfOk result (λ file. IsModuleFile bytes.now file) }
-    // What is spelled so is read, unless memory fails.
-    ensures only { (file : _) → IsModuleFile bytes.now file → Gives result (Ok file) }
-
-    // What the bytes are read as, or their first fault, unless memory fails.
-    ensures exact { Gives result (spec.module_file bytes.now) }
+fn whole(alloc: Global, bytes: &[u8]) -> Result<Syn, Refused>
+    ensures { Gives result (spec.module_file bytes.now) }
 {
     match from_utf8(bytes) {
         Ok(_) => file(alloc, bytes),
         Err(error) => Err(fail_at(ModKind::NotUtf8, error.valid_up_to())),
     }
+}
+
+/// The operations of a module file, or its first fault.
+pub fn parse_module(alloc: Global, bytes: &[u8]) -> Result<Syn, Refusal<ModFault>>
+    // What is read is spelled so.
+    ensures found { IfOk result (λ file. IsModuleFile bytes.now file) }
+    // What is spelled so is read, unless memory fails.
+    ensures only { (file : _) → IsModuleFile bytes.now file → Gives result (Ok file) }
+    // Its lists and its counts keep their limits, and its dictionaries are in order.
+    ensures limits { IfOk result (λ file. KeepsLimits file) }
+    ensures not_spelled { (f : Fault) → result ≡ Err (Refusal.Fault f) → (file : Read) → IsModuleFile bytes.now file → ⊥ }
+    // A fault says why a file isn't spelled, and its place is within the text.
+    ensures kinds { (f : Fault) → result ≡ Err (Refusal.Fault f) → is_spelling_fault f.kind ≡ true }
+    ensures within { (f : Fault) → result ≡ Err (Refusal.Fault f) → f.at ≤ length bytes.now }
+
+    // What the bytes are read as, or their first fault, unless memory fails.
+    ensures exact { Gives result (spec.module_file bytes.now) }
+{
+    whole(alloc, bytes)
 }

@@ -1,7 +1,7 @@
 //! Module files, and their faults.
 
 use crate::fault::{ModFault, ModKind};
-use crate::parse_module_text;
+use crate::parse_module;
 use crate::syn::{Syn, SynOp};
 use mlir_print::attr_text;
 use mlir_tree::refusal::Refusal;
@@ -9,14 +9,14 @@ use std::alloc::{AllocError, Global};
 use std::test::Fail;
 
 fn fault_of(alloc: Global, text: &[u8]) -> Option<ModFault> {
-    match parse_module_text(alloc, text) {
+    match parse_module(alloc, text) {
         Err(Refusal::Fault(fault)) => Some(fault),
         _ => None,
     }
 }
 
 fn is_read(alloc: Global, text: &[u8]) -> bool {
-    parse_module_text(alloc, text).is_ok()
+    parse_module(alloc, text).is_ok()
 }
 
 #[test]
@@ -200,7 +200,7 @@ fn parts_of_an_operation(rt: HostRuntime) -> Result<(), Fail> {
     let alloc = rt.alloc();
     let text: &[u8] =
         b"#a = [1 : i8] %r:2, %s = \"t.a\"(%x#65535, %y) <{q, p = #a}> ({^l(%z: i1): \"t.b\"() : () -> ()}) {b} : (i1, i2) -> i3 \"t.c\"() : () -> ()";
-    match parse_module_text(alloc, text) {
+    match parse_module(alloc, text) {
         Ok(file) => assert!(rt; has_parts(alloc, &file)?),
         Err(_) => assert!(rt; false),
     }
@@ -310,7 +310,7 @@ fn aliases_in_kept_bodies(rt: HostRuntime) -> Result<(), Fail> {
         (b"[#a, !b]", b"[3 : i64, i32]"),
     ];
     for (value, wanted) in rows {
-        match parse_module_text(alloc, entry_with_aliases(alloc, value)?.as_slice()) {
+        match parse_module(alloc, entry_with_aliases(alloc, value)?.as_slice()) {
             Ok(file) => assert!(rt; has_value(alloc, &file, wanted)?),
             Err(_) => assert!(rt; false),
         }

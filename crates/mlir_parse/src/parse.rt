@@ -1,6 +1,6 @@
 //! Types and attributes that are the whole of a text.
 
-ghost use Rattle.std.specs.Prelude.{◌≡◌, length, IfOk, IsUtf8, Ok, Err, true};
+ghost use Rattle.std.specs.Prelude.{◌≡◌, ◌≤◌, length, IfOk, IsUtf8, Ok, Err, true};
 ghost use Rattle.std.specs.Str.Lossy.{utf8_valid_len};
 ghost use Rattle.mlir_parse.specs.Faults.{is_type_fault, is_attr_fault};
 ghost use Rattle.mlir_parse.specs.Place.{fault};
@@ -33,8 +33,9 @@ pub fn parse_ty(alloc: Global, bytes: &[u8]) -> Result<Ty, Refusal<ModFault>>
     // The place of `NotUtf8` is the first byte that breaks UTF-8.
     ensures not_utf8 { ¬ IsUtf8 bytes.now → result ≡ Err (Refusal.Fault (fault NotUtf8 (utf8_valid_len bytes.now))) }
     ensures text { IfOk result (λ _. IsUtf8 bytes.now) }
-    // Which faults may come.
+    // Which faults may come, and where.
     ensures kinds { (f : _) → result ≡ Err (Refusal.Fault f) → is_type_fault f.kind ≡ true }
+    ensures within { (f : _) → result ≡ Err (Refusal.Fault f) → f.at ≤ length bytes.now }
 {
     match from_utf8(bytes) {
         Ok(_) => whole_ty(alloc, bytes),
@@ -54,8 +55,9 @@ pub fn parse_attr(alloc: Global, bytes: &[u8]) -> Result<Attr, Refusal<ModFault>
     // The place of `NotUtf8` is the first byte that breaks UTF-8.
     ensures not_utf8 { ¬ IsUtf8 bytes.now → result ≡ Err (Refusal.Fault (fault NotUtf8 (utf8_valid_len bytes.now))) }
     ensures text { IfOk result (λ _. IsUtf8 bytes.now) }
-    // Which faults may come.
+    // Which faults may come, and where.
     ensures kinds { (f : _) → result ≡ Err (Refusal.Fault f) → is_attr_fault f.kind ≡ true }
+    ensures within { (f : _) → result ≡ Err (Refusal.Fault f) → f.at ≤ length bytes.now }
 {
     match from_utf8(bytes) {
         Ok(_) => whole_attr(alloc, bytes),

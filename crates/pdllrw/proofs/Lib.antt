@@ -6,3 +6,4 @@ pub mod Refusals
 pub mod Built
 pub mod Gathered
 pub mod Lines
+pub mod Names

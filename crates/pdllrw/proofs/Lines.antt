@@ -6,10 +6,13 @@ use Rattle.rw_outside.proofs.Put.{appended-nil}
 use Rattle.pdll_syntax.specs.Faults.{code_text}
 use Rattle.pdll_syntax.specs.declared.fault.PatKind.{PatKind}
 use Rattle.pdll_syntax.specs.declared.fault.PatKind.TheVariants as pat_kinds
+use Rattle.mlir_parse.specs.Faults as module_faults
+use Rattle.mlir_parse.specs.declared.fault.ModKind.{ModKind}
+use Rattle.mlir_parse.specs.declared.fault.ModKind.TheVariants as mod_kinds
 use Rattle.pdllrw.specs.declared.position.Position.{Position}
 use Rattle.pdllrw.specs.declared.status.Status.{Status}
 use Rattle.pdllrw.specs.declared.status.Status.TheVariants as statuses
-use Rattle.pdllrw.specs.Outcome.{placed_line, patterns_line, line_of}
+use Rattle.pdllrw.specs.Outcome.{placed_line, patterns_line, module_line, line_of}
 use Rattle.pdllrw.specs.Written.{Tells}
 
 placed : (p : Position) (k : PatKind) → k ≢ pat_kinds.TooLong → k ≢ pat_kinds.NotBuilt → placed_line (codes "patterns") p (code_text k) ≡ patterns_line p k
@@ -21,6 +24,15 @@ placed p k h l = refl
 pub puts_placed : {A E : Type 0} (old new : SinkState) (r : Result A E) (p : Position) (k : PatKind) (code : List ℕ) → k ≢ pat_kinds.TooLong → k ≢ pat_kinds.NotBuilt → code ≡ code_text k
     → Puts old new r (placed_line (codes "patterns") p code) → Puts old new r (patterns_line p k)
 puts_placed old new r p k code h l is put = subst (Puts old new r) (ap (placed_line (codes "patterns") p) is ∙ placed p k h l) put
+
+placed_in_module : (p : Position) (k : ModKind) → k ≢ mod_kinds.TooLong → k ≢ mod_kinds.NotBuilt → placed_line (codes "module") p (module_faults.code_text k) ≡ module_line p k
+placed_in_module p mod_kinds.TooLong h l = absurd (h refl)
+placed_in_module p mod_kinds.NotBuilt h l = absurd (l refl)
+placed_in_module p k h l = refl
+
+pub puts_placed_in_module : {A E : Type 0} (old new : SinkState) (r : Result A E) (p : Position) (k : ModKind) (code : List ℕ) → k ≢ mod_kinds.TooLong → k ≢ mod_kinds.NotBuilt → code ≡ module_faults.code_text k
+    → Puts old new r (placed_line (codes "module") p code) → Puts old new r (module_line p k)
+puts_placed_in_module old new r p k code h l is put = subst (Puts old new r) (ap (placed_line (codes "module") p) is ∙ placed_in_module p k h l) put
 
 -- without memory there is no line
 pub tells_nothing : (p : Position) (s : Status) (state : SinkState) → s ≡ statuses.NoMemory → Tells state state (line_of p s) s statuses.NoMemory

@@ -78,7 +78,7 @@ module _ (old new : Outside) (words : List (List ℕ)) where
   patterns_stop command p statuses.WriteFault stops = absurd stops
 
   pub module_stops : (command : Command words) (patterns : List Erasing) → IfSome (old.files command.patterns) (AcceptsPatterns patterns)
-      → (p : Position) (s : Status) → StopsModule (old.files command.module_file) (old.faults command.module_file) (new.faults command.module_file) s → IsCause old new words p s ⊎ (s ≡ statuses.NoMemory)
+      → (p : Position) (s : Status) → StopsModule (old.files command.module_file) (old.faults command.module_file) (new.faults command.module_file) p s → IsCause old new words p s ⊎ (s ≡ statuses.NoMemory)
   module_stops command patterns are p (statuses.ModuleFault f) stops = inl (record { command = command; patterns = patterns; are_patterns = are; refused = stops })
   module_stops command patterns are p statuses.ReadFault stops = inl (record { command = command; rose = inr (patterns, are, stops) })
   module_stops command patterns are p statuses.NoMemory stops = inr refl
@@ -113,12 +113,12 @@ module _ (old new : Outside) (words : List (List ℕ)) where
       subst (IsOutcome old new words) (sym cut.0) (record { status = kind_of_ending e; out = out; log = log; is_answer = rewritten e out log r; cut = inr (cut.1, cut.2, cut.3) })
 
 -- a stop that is told of a later moment
-pub stops_since : (file file' : Option (List ℕ)) (f f1 f2 : ℕ) (s : Status) → file' ≡ file → f ≤ f1 → StopsModule file' f1 f2 s → StopsModule file f f2 s
-stops_since file file' f f1 f2 (statuses.ModuleFault e) same le stops = subst (λ (o : Option (List ℕ)). IfSome o (Outcome.RefusesModule e)) same stops
-stops_since file file' f f1 f2 statuses.ReadFault same le stops = rises f f1 f2 le stops
-stops_since file file' f f1 f2 statuses.NoMemory same le stops = tt
-stops_since file file' f f1 f2 statuses.Done same le stops = absurd stops
-stops_since file file' f f1 f2 (statuses.Bound k) same le stops = absurd stops
-stops_since file file' f f1 f2 statuses.Usage same le stops = absurd stops
-stops_since file file' f f1 f2 (statuses.PatternFault e) same le stops = absurd stops
-stops_since file file' f f1 f2 statuses.WriteFault same le stops = absurd stops
+pub stops_since : (file file' : Option (List ℕ)) (f f1 f2 : ℕ) (p : Position) (s : Status) → file' ≡ file → f ≤ f1 → StopsModule file' f1 f2 p s → StopsModule file f f2 p s
+stops_since file file' f f1 f2 p (statuses.ModuleFault e) same le stops = subst (λ (o : Option (List ℕ)). IfSome o (Outcome.RefusesModule p e)) same stops
+stops_since file file' f f1 f2 p statuses.ReadFault same le stops = rises f f1 f2 le stops
+stops_since file file' f f1 f2 p statuses.NoMemory same le stops = tt
+stops_since file file' f f1 f2 p statuses.Done same le stops = absurd stops
+stops_since file file' f f1 f2 p (statuses.Bound k) same le stops = absurd stops
+stops_since file file' f f1 f2 p statuses.Usage same le stops = absurd stops
+stops_since file file' f f1 f2 p (statuses.PatternFault e) same le stops = absurd stops
+stops_since file file' f f1 f2 p statuses.WriteFault same le stops = absurd stops

@@ -1,5 +1,6 @@
 pub mod Patterns
 pub mod Positions
+pub mod Modules
 pub mod NamedRows
 pub mod Run
 pub mod View

@@ -13,10 +13,13 @@ use Rattle.pdllrw.specs.declared.position.Position.{Position}
 use Rattle.pdll_syntax.specs.declared.fault.PatFault.{PatFault}
 use Rattle.pdll_syntax.specs.declared.fault.PatKind.{PatKind}
 use Rattle.pdll_syntax.specs.declared.fault.PatKind.TheVariants as pat_kinds
-use Rattle.mlir_parse.specs.Module.{IsModule}
-use Rattle.mlir_parse.specs.declared.ModFault.{ModFault}
-use Rattle.mlir_parse.specs.declared.ModKind.{ModKind}
-use Rattle.mlir_parse.specs.declared.ModKind.TheVariants as mod_kinds
+use Rattle.mlir_parse.specs.declared.syn.Syn.{Syn}
+use Rattle.mlir_parse.specs.FileGrammar.{IsModuleFile}
+use Rattle.mlir_parse.specs.Faults as module_faults
+use Rattle.mlir_parse.specs.declared.fault.ModFault.{ModFault}
+use Rattle.mlir_parse.specs.declared.fault.ModKind.{ModKind}
+use Rattle.mlir_parse.specs.declared.fault.ModKind.TheVariants as mod_kinds
+use Rattle.pdllrw.specs.Modules as modules
 use Rattle.pdllrw.specs.NamedRows.{rows_of}
 use Rattle.pdllrw.specs.Run.{run}
 use Rattle.pdllrw.specs.declared.driver.Hit.{Hit}
@@ -55,12 +58,21 @@ RefusesPatternsAs p kind at bytes = IsNotSpelled p kind at bytes
 abbrev pub RefusesPatterns : Position → PatFault → List ℕ → Type 0
 RefusesPatterns p f bytes = RefusesPatternsAs p f.kind f.at bytes
 
-abbrev pub RefusesModuleAs : ModKind → ℕ → List ℕ → Type 0
-RefusesModuleAs mod_kinds.TooLong at bytes = (67108864 < length bytes) × (at ≡ 67108864)
-RefusesModuleAs mod_kinds.NotBuilt at bytes = (at ≡ 0) × (length bytes ≤ 67108864) × ((names : List (List ℕ)) → IsModule names bytes → ⊥)
+-- The same of a module file.
+pub record IsNoModule (p : Position) (kind : ModKind) (at : ℕ) (bytes : List ℕ) : Type 0 where
+  pub is_kind : module_faults.is_spelling_fault kind ≡ true
+  pub short : length bytes ≤ 67108864
+  pub not_spelled : (file : Syn) → IsModuleFile bytes file → ⊥
+  pub within : at ≤ length bytes
+  pub place : p ≡ position_of bytes at
 
-abbrev pub RefusesModule : ModFault → List ℕ → Type 0
-RefusesModule f bytes = RefusesModuleAs f.kind f.at bytes
+abbrev pub RefusesModuleAs : Position → ModKind → ℕ → List ℕ → Type 0
+RefusesModuleAs p mod_kinds.TooLong at bytes = (67108864 < length bytes) × (at ≡ 67108864)
+RefusesModuleAs p mod_kinds.NotBuilt at bytes = (at ≡ 0) × (length bytes ≤ 67108864) × (file : Syn) × IsModuleFile bytes file × (modules.built file ≡ None)
+RefusesModuleAs p kind at bytes = IsNoModule p kind at bytes
+
+abbrev pub RefusesModule : Position → ModFault → List ℕ → Type 0
+RefusesModule p f bytes = RefusesModuleAs p f.kind f.at bytes
 
 -- a line and a column, and what is wrong there
 abbrev pub placed_line : List ℕ → Position → List ℕ → List ℕ
@@ -71,9 +83,10 @@ patterns_line p pat_kinds.TooLong = codes "pdllrw: patterns: P1 TooLong\n"
 patterns_line p pat_kinds.NotBuilt = codes "pdllrw: patterns: P0 NotBuilt\n"
 patterns_line p kind = placed_line (codes "patterns") p (code_text kind)
 
-abbrev pub module_line : ModKind → List ℕ
-module_line mod_kinds.TooLong = codes "pdllrw: module: M1 TooLong\n"
-module_line mod_kinds.NotBuilt = codes "pdllrw: module: M0 NotBuilt\n"
+abbrev pub module_line : Position → ModKind → List ℕ
+module_line p mod_kinds.TooLong = codes "pdllrw: module: M1 TooLong\n"
+module_line p mod_kinds.NotBuilt = codes "pdllrw: module: M0 NotBuilt\n"
+module_line p kind = placed_line (codes "module") p (module_faults.code_text kind)
 
 -- the line of a refusal that names no place of a file
 abbrev pub plain_line : Status → List ℕ
@@ -84,7 +97,7 @@ plain_line status = []
 -- the line of a refusal, with the line and the column of its place where it names one
 unfoldable pub line_of : Position → Status → List ℕ
 line_of p (statuses.PatternFault f) = patterns_line p f.kind
-line_of p (statuses.ModuleFault f) = module_line f.kind
+line_of p (statuses.ModuleFault f) = module_line p f.kind
 line_of p status = plain_line status
 
 -- ---- answers
@@ -116,17 +129,17 @@ pub record HasBadPatterns (old : Outside) (words : List (List ℕ)) (p : Positio
   pub command : Command words
   pub refused : IfSome (old.files command.patterns) (RefusesPatterns p f)
 
-pub record HasBadModule (old : Outside) (words : List (List ℕ)) (f : ModFault) : Type 0 where
+pub record HasBadModule (old : Outside) (words : List (List ℕ)) (p : Position) (f : ModFault) : Type 0 where
   pub command : Command words
   pub patterns : List Erasing
   pub are_patterns : IfSome (old.files command.patterns) (AcceptsPatterns patterns)
-  pub refused : IfSome (old.files command.module_file) (RefusesModule f)
+  pub refused : IfSome (old.files command.module_file) (RefusesModule p f)
 
 -- why a status that writes a line comes, and the line and the column that it names
 abbrev pub IsCause : Outside → Outside → List (List ℕ) → Position → Status → Type 0
 IsCause old new words p statuses.Usage = command_of words ≡ None
 IsCause old new words p (statuses.PatternFault f) = HasBadPatterns old words p f
-IsCause old new words p (statuses.ModuleFault f) = HasBadModule old words f
+IsCause old new words p (statuses.ModuleFault f) = HasBadModule old words p f
 IsCause old new words p statuses.ReadFault = ReadsBadly old new words
 IsCause old new words p statuses.Done = ⊥
 IsCause old new words p (statuses.Bound k) = ⊥

@@ -1,7 +1,7 @@
 // The run: erases, again and again, the first operation in text order at which a pattern matches.
 ghost use Rattle.std.specs.Prelude.{◌≡◌, ◌+◌, ◌-◌, ◌≤◌, ◌<◌, ◌^◌, ◌++◌, ℕ, List, length, IfOk, IfSome, OnOk, Option, None, codes};
 ghost use Rattle.pdllrw.specs.Patterns.{views};
-ghost use Rattle.mlir_parse.specs.Module.{texts};
+ghost use Rattle.pdllrw.specs.Modules.{texts};
 ghost use Rattle.pdllrw.specs.NamedRows.{numbered, rows_of};
 ghost use Rattle.pdllrw.specs.Run.{best, run};
 ghost use Rattle.pdllrw.specs.View.{seen_rows, seen_run};

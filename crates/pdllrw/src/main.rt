@@ -3,6 +3,7 @@
 
 mod driver;
 mod laws;
+mod modules;
 mod patterns;
 mod position;
 mod reading;

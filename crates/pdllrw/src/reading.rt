@@ -1,20 +1,22 @@
 // Reads the files of the command.
 ghost use Rattle.std.specs.Prelude.{◌≡◌, ◌≤◌, ◌<◌, ◌⊎◌, ℕ, List, codes, length, IfOk, IfErr, IfSome, None};
 ghost use Rattle.pdllrw.specs.Patterns.{views};
-ghost use Rattle.mlir_parse.specs.Module.{texts};
+ghost use Rattle.pdllrw.specs.Modules.{texts};
 ghost use Rattle.pdll_syntax.specs.declared.fault.PatFault.{PatFault as Fault};
 ghost use Rattle.pdllrw.specs.Positions.{position_of};
 ghost use Rattle.pdllrw.specs.Run.{best};
-ghost use Rattle.mlir_parse.specs.declared.ModFault.{ModFault as ModuleFault};
+ghost use Rattle.mlir_parse.specs.declared.fault.ModFault.{ModFault as ModuleFault};
 ghost use Rattle.pdllrw.specs.Outcome.{RefusesPatterns, RefusesModule};
 ghost use Rattle.pdllrw.specs.declared.status.Status.TheVariants as statuses;
 ghost use Rattle.pdllrw.specs.Accepted.{AcceptsPatterns, AcceptsModule};
 ghost use Rattle.pdllrw.specs.Stops.{StopsPatterns, StopsModule};
 
+use crate::modules;
 use crate::patterns::{Pattern, built};
 use crate::position::{FIRST, Position, position_of};
 use crate::status::Status;
-use mlir_parse::{ModFault, ModKind, parse_module};
+use mlir_parse::fault::{ModFault, ModKind};
+use mlir_parse::parse_module;
 use mlir_tree::refusal::Refusal;
 use pdll_parser::parse_patterns;
 use pdll_syntax::fault::{PatFault, PatKind};
@@ -92,17 +94,40 @@ pub fn read_patterns<H: Host>(alloc: Global, host: &mut H, name: &str) -> Result
     patterns_of(alloc, &bytes)
 }
 
+fn no_module(bytes: &[u8], fault: ModFault) -> Stop
+    requires { fault.at ≤ length bytes.now }
+    ensures status { result.status ≡ statuses.ModuleFault fault }
+    ensures place { result.place ≡ position_of bytes.now fault.at }
+{
+    Stop {
+        status: Status::ModuleFault(fault),
+        place: position_of(bytes, fault.at),
+    }
+}
+
+fn module_fault(kind: ModKind, at: usize) -> Stop
+    ensures status { result.status ≡ statuses.ModuleFault (record { kind = kind; at = at }) }
+{
+    placeless(Status::ModuleFault(ModFault { kind, at }))
+}
+
 // The names of the operations that these bytes spell.
+#[tactic(auto, using(crate::proofs::Names::few_texts))]
 fn names_of(alloc: Global, bytes: &[u8]) -> Result<Vec<Vec<u8>>, Stop>
     requires { length bytes.now ≤ 67108864 }
     ensures found { IfOk result (λ v. AcceptsModule (texts v.items) bytes.now) }
     ensures few { IfOk result (λ v. length v.items ≤ 1000000) }
-    ensures stopped { IfErr result (λ stop. (stop.status ≡ statuses.NoMemory) ⊎ ((f : ModuleFault) × (stop.status ≡ statuses.ModuleFault f) × RefusesModule f bytes.now)) }
+    ensures stopped { IfErr result (λ stop. (stop.status ≡ statuses.NoMemory) ⊎ ((f : ModuleFault) × (stop.status ≡ statuses.ModuleFault f) × RefusesModule stop.place f bytes.now)) }
 {
-    match parse_module(alloc, bytes) {
-        Ok(names) => Ok(names),
-        Err(Refusal::Fault(fault)) => Err(placeless(Status::ModuleFault(fault))),
-        Err(Refusal::NoMemory) => Err(placeless(Status::NoMemory)),
+    let file = match parse_module(alloc, bytes) {
+        Ok(file) => file,
+        Err(Refusal::Fault(fault)) => return Err(no_module(bytes, fault)),
+        Err(Refusal::NoMemory) => return Err(placeless(Status::NoMemory)),
+    };
+    match modules::built(alloc, &file) {
+        Ok(Some(names)) => Ok(names),
+        Ok(None) => Err(module_fault(ModKind::NotBuilt, 0)),
+        Err(_) => Err(placeless(Status::NoMemory)),
     }
 }
 
@@ -110,19 +135,14 @@ fn names_of(alloc: Global, bytes: &[u8]) -> Result<Vec<Vec<u8>>, Stop>
 pub fn read_module<H: Host>(alloc: Global, host: &mut H, name: &str) -> Result<Vec<Vec<u8>>, Stop>
     ensures found { IfOk result (λ v. IfSome (H.file host.old name.now) (AcceptsModule (texts v.items))) }
     ensures few { IfOk result (λ v. length v.items ≤ 1000000) }
-    ensures stopped { IfErr result (λ stop. StopsModule (H.file host.old name.now) (H.faults host.old name.now) (H.faults host.new name.now) stop.status) }
+    ensures stopped { IfErr result (λ stop. StopsModule (H.file host.old name.now) (H.faults host.old name.now) (H.faults host.new name.now) stop.place stop.status) }
     ensures never_falls { (n : List ℕ) → H.faults host.old n ≤ H.faults host.new n }
     ensures files { (n : List ℕ) → H.file host.new n ≡ H.file host.old n }
 {
     let bytes = match take_all(alloc, host, name, MAX_BYTES) {
         Ok(bytes) => bytes,
         Err(TakeErr::ReadFault) => return Err(placeless(Status::ReadFault)),
-        Err(TakeErr::TooLong) => {
-            return Err(placeless(Status::ModuleFault(ModFault {
-                kind: ModKind::TooLong,
-                at: MAX_BYTES,
-            })));
-        }
+        Err(TakeErr::TooLong) => return Err(module_fault(ModKind::TooLong, MAX_BYTES)),
         Err(TakeErr::NoMemory) => return Err(placeless(Status::NoMemory)),
     };
     names_of(alloc, &bytes)

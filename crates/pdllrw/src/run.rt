@@ -17,7 +17,7 @@ use crate::status::{BoundKind, Status};
 use crate::texts::{put_log, put_module, put_pieces};
 use crate::words::command;
 use itoa::Buffer;
-use mlir_parse::ModKind;
+use mlir_parse::fault::ModKind;
 use pdll_syntax::fault::PatKind;
 use rw_outside::{BufferedSink, Failed, Host, Sink, put_all};
 use std::alloc::{AllocError, Global};
@@ -59,12 +59,13 @@ fn put_placed<G: Sink>(log: &mut G, file: &[u8], place: Position, code: &[u8]) -
     )
 }
 
-fn put_module_line<G: Sink>(log: &mut G, kind: ModKind) -> Result<(), Failed>
-    ensures { Puts (G.state log.old) (G.state log.new) result (module_line kind) }
+fn put_module_line<G: Sink>(log: &mut G, place: Position, kind: ModKind) -> Result<(), Failed>
+    ensures { Puts (G.state log.old) (G.state log.new) result (module_line place kind) }
 {
     match kind {
         ModKind::TooLong => put_all(log, b"pdllrw: module: M1 TooLong\n"),
         ModKind::NotBuilt => put_all(log, b"pdllrw: module: M0 NotBuilt\n"),
+        _ => put_placed(log, b"module", place, kind.code_text()),
     }
 }
 
@@ -87,7 +88,7 @@ fn put_line<G: Sink>(log: &mut G, stop: Stop) -> Result<(), Failed>
 {
     match stop.status {
         Status::PatternFault(fault) => put_patterns_line(log, stop.place, fault.kind),
-        Status::ModuleFault(fault) => put_module_line(log, fault.kind),
+        Status::ModuleFault(fault) => put_module_line(log, stop.place, fault.kind),
         status => put_all(log, plain_line(status)),
     }
 }

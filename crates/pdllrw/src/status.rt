@@ -1,6 +1,6 @@
 ghost use Rattle.std.specs.Prelude.{◌≡◌};
 
-use mlir_parse::ModFault;
+use mlir_parse::fault::ModFault;
 use pdll_syntax::fault::PatFault;
 
 /// Which limit ended a run.

@@ -1,6 +1,6 @@
 use crate::run;
 use crate::status::{BoundKind, Status};
-use mlir_parse::{ModFault, ModKind};
+use mlir_parse::fault::{ModFault, ModKind};
 use pdll_syntax::fault::{PatFault, PatKind};
 use rw_outside::{MemHost, MemSink, SureHost, SureSink};
 use std::alloc::{AllocError, Global};
@@ -173,6 +173,26 @@ fn refuses_words_and_files(rt: HostRuntime) -> Result<(), Fail> {
             b"\"t.a\"() {v} : () -> ()".as_slice(),
             not_built,
             b"pdllrw: module: M0 NotBuilt\n".as_slice(),
+        ),
+        (
+            &["p", "m"][..],
+            PATTERN,
+            b"// one\n\"t.a\"() {s = \"ab".as_slice(),
+            Status::ModuleFault(ModFault {
+                kind: ModKind::BadString,
+                at: 20,
+            }),
+            b"pdllrw: module: 2:14: M4 BadString\n".as_slice(),
+        ),
+        (
+            &["p", "m"][..],
+            PATTERN,
+            b"func.func @f() { }".as_slice(),
+            Status::ModuleFault(ModFault {
+                kind: ModKind::CustomForm,
+                at: 0,
+            }),
+            b"pdllrw: module: 1:1: M6 CustomForm\n".as_slice(),
         ),
         (
             &["p", "absent"][..],

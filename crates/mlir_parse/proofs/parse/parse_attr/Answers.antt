@@ -1,8 +1,7 @@
 use Rattle.mlir_parse.specs.Attributes.{attr_of}
 use Rattle.mlir_parse.specs.AttributeGrammar.{IsAttrText}
-use Rattle.mlir_parse.specs.Faults.{is_attr_fault}
-use Rattle.mlir_parse.proofs.Whole.{found_by, only_by, kinds_by}
-use Rattle.mlir_parse.proofs.Causes.{attr_text_faults}
+use Rattle.mlir_parse.proofs.Whole.{found_by, only_by}
+use Rattle.mlir_parse.proofs.FaultFiles.{attr_fault}
 use Rattle.mlir_parse.proofs.AttrsSound.{attr_text_sound}
 use Rattle.mlir_parse.proofs.AttrsComplete.{attr_text_complete}
 use Rattle.mlir_parse.proofs.parse.parse_attr.Goals as goal
@@ -14,4 +13,7 @@ pub returns-in-Ok-clause-only : goal.returns-in-Ok-clause-only
 returns-in-Ok-clause-only c = λ t h. only_by IsAttrText attr_of attr_text_complete c.args.bytes.now c.whole_attr.result t c.whole_attr.ensures h
 
 pub returns-in-Ok-clause-kinds : goal.returns-in-Ok-clause-kinds
-returns-in-Ok-clause-kinds c = kinds_by IsAttrText attr_of is_attr_fault attr_text_faults c.args.bytes.now c.whole_attr.result c.whole_attr.ensures
+returns-in-Ok-clause-kinds c = λ f is. let told = attr_fault c.args.bytes.now c.whole_attr.result f c.whole_attr.ensures is in told.kind
+
+pub returns-in-Ok-clause-within : goal.returns-in-Ok-clause-within
+returns-in-Ok-clause-within c = λ f is. let told = attr_fault c.args.bytes.now c.whole_attr.result f c.whole_attr.ensures is in told.within

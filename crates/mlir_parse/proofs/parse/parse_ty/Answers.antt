@@ -1,8 +1,7 @@
 use Rattle.mlir_parse.specs.Types.{type_of}
 use Rattle.mlir_parse.specs.TypeGrammar.{IsTypeText}
-use Rattle.mlir_parse.specs.Faults.{is_type_fault}
-use Rattle.mlir_parse.proofs.Whole.{found_by, only_by, kinds_by}
-use Rattle.mlir_parse.proofs.Causes.{type_faults}
+use Rattle.mlir_parse.proofs.Whole.{found_by, only_by}
+use Rattle.mlir_parse.proofs.FaultFiles.{type_fault}
 use Rattle.mlir_parse.proofs.TypesSound.{type_sound}
 use Rattle.mlir_parse.proofs.TypesComplete.{type_complete}
 use Rattle.mlir_parse.proofs.parse.parse_ty.Goals as goal
@@ -14,4 +13,7 @@ pub returns-in-Ok-clause-only : goal.returns-in-Ok-clause-only
 returns-in-Ok-clause-only c = λ t h. only_by IsTypeText type_of type_complete c.args.bytes.now c.whole_ty.result t c.whole_ty.ensures h
 
 pub returns-in-Ok-clause-kinds : goal.returns-in-Ok-clause-kinds
-returns-in-Ok-clause-kinds c = kinds_by IsTypeText type_of is_type_fault type_faults c.args.bytes.now c.whole_ty.result c.whole_ty.ensures
+returns-in-Ok-clause-kinds c = λ f is. let told = type_fault c.args.bytes.now c.whole_ty.result f c.whole_ty.ensures is in told.kind
+
+pub returns-in-Ok-clause-within : goal.returns-in-Ok-clause-within
+returns-in-Ok-clause-within c = λ f is. let told = type_fault c.args.bytes.now c.whole_ty.result f c.whole_ty.ensures is in told.within

@@ -2,7 +2,7 @@ use Rattle.std.proofs.Common.{◌≡◌, ◌+◌, ◌-◌, ◌++◌, ◌∷◌, 
 use Rattle.std.specs.Global.{Vec}
 use Rattle.std.proofs.lemmas.List.{map_push, take_all}
 use Rattle.pdllrw.specs.Patterns.{views}
-use Rattle.mlir_parse.specs.Module.{texts}
+use Rattle.pdllrw.specs.Modules.{texts}
 use Rattle.pdllrw.specs.declared.driver.Hit.{Hit}
 use Rattle.pdllrw.specs.declared.driver.Row.{Row}
 use Rattle.pdllrw.specs.NamedRows.{numbered}

@@ -1,5 +1,5 @@
 use Rattle.std.proofs.Common.{◌≡◌, ◌+◌, ◌++◌, drop}
-use Rattle.mlir_parse.specs.Module.{texts}
+use Rattle.pdllrw.specs.Modules.{texts}
 use Rattle.pdllrw.specs.NamedRows.{numbered}
 use Rattle.pdllrw.specs.View.{seen_rows}
 use Rattle.pdllrw.proofs.driver.push_rows.Given as goal

@@ -2,7 +2,7 @@ use Rattle.std.proofs.Common.{◌≡◌, ℕ, List, Option, map, codes, string_b
 use Rattle.std.specs.Option.{option_map}
 use Rattle.std.specs.Prelude.{IfSome}
 use Rattle.pdllrw.specs.Patterns.{views}
-use Rattle.mlir_parse.specs.Module.{texts}
+use Rattle.pdllrw.specs.Modules.{texts}
 use Rattle.pdllrw.specs.Run.{best, Course, run}
 use Rattle.pdllrw.specs.NamedRows.{rows_of}
 use Rattle.pdllrw.specs.View.{seen_run}
@@ -29,7 +29,7 @@ returns-in-Err-read_module g c =
     let name = c.in-Some.module_name.now in
     let command : Command (map string_bytes c.args.words.now) = record { patterns = c.in-Some.patterns_name.now; module_file = name; is_command = sym c.in-Some.ensures } in
     let since = stops_since (g.H.Host.file c.args.host.now name) (g.H.Host.file c.read_patterns.new.host name) (g.H.Host.faults c.args.host.now name) (g.H.Host.faults c.read_patterns.new.host name) (g.H.Host.faults c.read_module.new.host name)
-    c.in-Err-read_module.stop.status (c.read_patterns.ensures.files name) (c.read_patterns.ensures.never_falls name) stop in
+    c.in-Err-read_module.stop.place c.in-Err-read_module.stop.status (c.read_patterns.ensures.files name) (c.read_patterns.ensures.never_falls name) stop in
     stopped _ _ _ c.in-Err-read_module.stop.place c.in-Err-read_module.stop.status c.refuse-in-Err-read_module.result (module_stops _ _ _ command (views c.in-Ok.patterns.items) found c.in-Err-read_module.stop.place c.in-Err-read_module.stop.status since) refl
     c.refuse-in-Err-read_module.ensures.tells c.refuse-in-Err-read_module.ensures.silent
 
