@@ -1,6 +1,6 @@
 -- What every tree of a module file keeps: what is counted on the way bounds it.
-use Rattle.std.proofs.Common.{◌≡◌, ℕ, zero, suc, ◌+◌, ◌<◌, ◌≤◌, true, List, [], ◌∷◌, ◌++◌, length, refl, ap, sym, subst, arith, inl, inr, Ok, Err, Result, IfOk}
-use Rattle.std.specs.Prelude.{map, ◌⊎◌}
+use Rattle.std.proofs.Common.{◌≡◌, ℕ, zero, suc, ◌+◌, ◌≤◌, List, [], ◌∷◌, ◌++◌, length, refl, ap, sym, subst, arith, inl, inr, Ok, Err, Result, IfOk}
+use Rattle.std.specs.Prelude.{map}
 use Rattle.mlir_lexer.specs.declared.token.TokenKind.{TokenKind}
 use Rattle.mlir_lexer.specs.declared.token.TokenKind.TheVariants as k
 use Rattle.mlir_lexer.proofs.Places.{goes_on}
@@ -33,7 +33,7 @@ use Rattle.mlir_parse.specs.Lists.{AreListed, InBrackets}
 use Rattle.mlir_parse.specs.OperationGrammar as grammar
 use Rattle.mlir_parse.specs.OperationGrammar.{IsSlot, IsMaybeIndex, IsOperand, AreOperands, IsOperationName, IsLocation, Fills, IsDictionary, AreProperties, AreAttributes, IsResultType, AreResultTypes, AreArguments, IsLabel, IsFront, IsBack, IsRegion, AreRegions, AreMoreRegions, AreOperations, IsOperation}
 use Rattle.mlir_parse.specs.FileGrammar.{IsMeaning, IsDefinition, AreDefinitions, AreFileOperations, IsModuleFile}
-use Rattle.mlir_parse.specs.Limits.{operation_count, operations_count, region_operation_count, operation_slots, operations_slots, region_slots, region_count, syn_names, IsHeadKept, IsOperationKept, AreRegionsKept, AreOperationsKept, KeepsLimits}
+use Rattle.mlir_parse.specs.Limits.{operation_count, operations_count, region_operation_count, operation_slots, operations_slots, region_slots, region_count, syn_names, IsOperationKept, AreRegionsKept, AreOperationsKept, KeepsLimits}
 use Rattle.mlir_parse.proofs.Rising.{names, rising_put}
 use Rattle.mlir_parse.proofs.FaultSteps.{Reading, IsIn, Judged, Good, location_judged, maybe_location_judged}
 use Rattle.mlir_parse.proofs.FaultTypes.{ty_judged}

@@ -1,6 +1,6 @@
 -- The faults of module files, and of texts that are one type or one attribute.
-use Rattle.std.proofs.Common.{◌≡◌, ℕ, zero, suc, ◌≤◌, Bool, true, false, cond, List, [], ◌∷◌, ◌++◌, length, refl, sym, subst, ◌∙◌, arith, Result, Ok, Err, Option, Some, None}
-use Rattle.std.specs.Prelude.{◌==◌, ◌||◌}
+use Rattle.std.proofs.Common.{◌≡◌, ℕ, zero, suc, ◌≤◌, Bool, true, false, cond, List, [], ◌∷◌, ◌++◌, length, refl, subst, arith, Result, Ok, Err}
+use Rattle.std.specs.Prelude.{◌==◌}
 use Rattle.std.specs.Option.{is_some}
 use Rattle.std.specs.Str.Lossy.{utf8_valid_len}
 use Rattle.std.proofs.lemmas.Str.{utf8_valid_len_le}
@@ -12,11 +12,10 @@ use Rattle.mlir_parse.specs.declared.fault.ModFault.{ModFault}
 use Rattle.mlir_parse.specs.declared.fault.ModKind.{ModKind}
 use Rattle.mlir_parse.specs.declared.fault.ModKind.TheVariants as faults
 use Rattle.mlir_parse.specs.declared.aliases.Alias.{Alias}
-use Rattle.mlir_parse.specs.declared.aliases.Meaning.{Meaning}
 use Rattle.mlir_parse.specs.declared.syn.Syn.{Syn}
 use Rattle.mlir_parse.specs.Faults.{is_type_fault, is_attr_fault, is_spelling_fault}
 use Rattle.mlir_parse.specs.Place.{Place, fault, left, sees, start, start_of, next, spelling}
-use Rattle.mlir_parse.specs.Input.{Outcome, Parser, Gives, expect, lift}
+use Rattle.mlir_parse.specs.Input.{Outcome, Gives, expect, lift}
 use Rattle.mlir_parse.specs.Aliases.{find, has_point}
 use Rattle.mlir_parse.specs.Types.{ty, max_open, whole, whole_by, type_of}
 use Rattle.mlir_parse.specs.Attributes.{attr, attr_of}

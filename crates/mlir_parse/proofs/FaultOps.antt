@@ -1,5 +1,5 @@
 -- The faults of operations and regions.
-use Rattle.std.proofs.Common.{◌≡◌, ℕ, zero, suc, ◌≤◌, Bool, true, false, cond, List, [], ◌∷◌, length, refl, Result, Ok, Err, Option, Some, None}
+use Rattle.std.proofs.Common.{◌≡◌, ℕ, zero, suc, ◌≤◌, Bool, true, false, cond, List, [], ◌∷◌, length, refl, Ok, Err, Option, Some, None}
 use Rattle.std.specs.Prelude.{nat_le, ◌==◌, ◌&&◌}
 use Rattle.mlir_lexer.specs.declared.token.TokenKind.{TokenKind}
 use Rattle.mlir_lexer.specs.declared.token.TokenKind.TheVariants as k
@@ -8,14 +8,13 @@ use Rattle.mlir_parse.specs.declared.fault.ModFault.{ModFault}
 use Rattle.mlir_parse.specs.declared.fault.ModKind.{ModKind}
 use Rattle.mlir_parse.specs.declared.fault.ModKind.TheVariants as faults
 use Rattle.mlir_parse.specs.declared.aliases.Alias.{Alias}
-use Rattle.mlir_parse.specs.declared.syn.SynUse.{SynUse}
 use Rattle.mlir_parse.specs.Faults.{is_attr_fault, is_spelling_fault}
 use Rattle.mlir_parse.specs.Place.{Place, fault, left, kind, sees, start, next, spelling}
 use Rattle.mlir_parse.specs.Input.{Outcome, Parser, refuse, after, expect, items}
 use Rattle.mlir_parse.specs.Numbers.{if_short, token_value}
 use Rattle.mlir_parse.specs.Types.{ty}
 use Rattle.mlir_parse.specs.Attributes.{attr, entry_name, entry_value, string_value}
-use Rattle.mlir_parse.specs.Steps.{max_parts, bracketed, counted_items, listed, all_up_to, has_slot, after_slot, has_operation, after_operation, maybe_location}
+use Rattle.mlir_parse.specs.Steps.{max_parts, counted_items, all_up_to, has_slot, after_slot, has_operation, after_operation, maybe_location}
 use Rattle.mlir_parse.specs.Entries.{Placed, is_placed, put_placed, placed_entries, all_placed_entries, dictionary_inside, dictionary, maybe_dictionary, maybe_properties}
 use Rattle.mlir_parse.specs.SynTree.{Operation}
 use Rattle.mlir_parse.specs.Operations as read

@@ -1,6 +1,6 @@
 -- Each fault that a rule gives is of a kind that says why a text isn't spelled, and its place is within the text. What is
 -- counted on the way never falls, and keeps its limits.
-use Rattle.std.proofs.Common.{◌≡◌, ℕ, zero, suc, ◌+◌, ◌-◌, ◌<◌, ◌≤◌, Bool, true, false, cond, List, [], ◌∷◌, ◌++◌, length, drop, get_or, refl, ap, arith, inl, inr, length-drop, Result, Ok, Err, Option, Some, None}
+use Rattle.std.proofs.Common.{◌≡◌, ℕ, zero, suc, ◌+◌, ◌-◌, ◌<◌, ◌≤◌, Bool, true, false, cond, List, [], ◌∷◌, ◌++◌, length, drop, get_or, refl, ap, arith, inl, inr, Result, Ok, Err, Option, Some, None}
 use Rattle.std.specs.Prelude.{◌==◌, nat_le, nat_lt, slice_index}
 use Rattle.std.specs.Option.{option_map_or}
 use Rattle.std.proofs.lemmas.Bool.{cases_lt, and_parts}
@@ -22,7 +22,7 @@ use Rattle.mlir_parse.specs.declared.fault.ModFault.{ModFault}
 use Rattle.mlir_parse.specs.declared.fault.ModKind.{ModKind}
 use Rattle.mlir_parse.specs.declared.fault.ModKind.TheVariants as faults
 use Rattle.mlir_parse.specs.Faults.{is_type_fault}
-use Rattle.mlir_parse.specs.Place.{Place, moved, left, fault, sees, start, start_by, next, next_by, refusal, refusal_by, spelling}
+use Rattle.mlir_parse.specs.Place.{Place, moved, left, fault, sees, start, start_by, next, next_by, refusal, refusal_by}
 use Rattle.mlir_parse.specs.Input.{Outcome, Parser, and_then, refuse, lift, after, expect, separated, items, list}
 use Rattle.mlir_parse.specs.Types.{body_fault}
 use Rattle.mlir_parse.specs.Steps.{max_operations, max_slots, max_parts, opening, bracketed, counted, counted_items, listed, many, all_up_to, has_slot, after_slot, has_operation, after_operation, balanced, location_by, location_text, location, sees_loc, maybe_location}

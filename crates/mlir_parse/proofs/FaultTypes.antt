@@ -22,9 +22,9 @@ use Rattle.mlir_parse.specs.Place.{Place, fault, kind, sees, start, spelling, ne
 use Rattle.mlir_parse.specs.Input.{Outcome, Parser, refuse, expect, list}
 use Rattle.mlir_parse.specs.Aliases.{find, ty_meant, has_point}
 use Rattle.mlir_parse.specs.KeptText.{Names, names, in_front, put_text, fits, or_use, used_at, closers_after}
-use Rattle.mlir_parse.specs.Types.{named_by, max_width, leaf_by, leaf, int_word, is_other_word, opens_body, max_open, body_by, body_at, body, kept, has_room, put_in, use_alias, alias_ty_by, alias_ty, word_type, bang_type, results_by, function, ty_by, ty}
+use Rattle.mlir_parse.specs.Types.{named_by, body_fault, broken_end, first_in_body, max_width, leaf_by, leaf, int_word, is_other_word, opens_body, max_open, body_by, body_at, body, kept, has_room, put_in, use_alias, alias_ty_by, alias_ty, word_type, bang_type, results_by, function, ty_by, ty}
 use Rattle.mlir_parse.proofs.Bodies.{opens_inside, end_within}
-use Rattle.mlir_parse.proofs.FaultSteps.{Reading, IsIn, Judged, Good, Told, FailsBy, start_within, next_in, refused, failed, failed_at, lifted, expected, both, mapped, either, list_judged, body_told}
+use Rattle.mlir_parse.proofs.FaultSteps.{Reading, IsIn, IsFault, Judged, Good, Told, FailsBy, start_within, next_in, refused, failed, failed_at, lifted, expected, both, mapped, either, list_judged, body_told}
 
 -- ---- where a body ends
 
@@ -150,12 +150,19 @@ module _ (j : Reading) where
     named_judged s at end (Ok p) h order inside stops = record { same = h.same; within = inside; operations = h.operations; few_operations = h.few_operations; slots = h.slots; few_slots = h.few_slots }
     named_judged s at end (Err i) h order inside stops = record { kind = j.wide faults.TooMany refl; within = omega (arith, order, inside, stops) }
 
+    first_judged : (s : Place) (at : ℕ) (f : BodyFault) (n : ℕ) (o : Names) → IsIn j s → FailsBy (length s.bytes) (Err f) → at + n ≤ length s.bytes → StopsBy n o → IsFault j (first_in_body at f o)
+    first_judged s at f n (Ok p) h fails short stops = body_told j s f h fails
+    first_judged s at f n (Err i) h fails short stops = record { kind = j.wide faults.TooMany refl; within = omega (arith, short, stops, ap length h.same) }
+
     ends_judged : (room : ℕ) (s : Place) (at : ℕ) (o : Result ℕ BodyFault) → IsIn j s → at < length s.bytes → end_of_body s.bytes at (max_open - room) ≡ o → FailsBy (length s.bytes) o → Judged j (body_by aliases room s at o)
     ends_judged room s at (Ok end) h inside is fails =
         let (after, within) = end_within s.bytes at (max_open - room) end inside is in
         named_judged s at end (names aliases room [] false 0 s.put 0 (slice_range s.bytes at end)) h (omega (arith, after)) (omega (arith, within, ap length h.same))
         (names_stop (end - at) aliases room [] false 0 s.put 0 (slice_range s.bytes at end) (omega (arith, length-take (end - at) (drop at s.bytes))))
-    ends_judged room s at (Err f) h inside is fails = body_told j s f h fails
+    ends_judged room s at (Err f) h inside is fails =
+        let text = slice_range s.bytes at (broken_end s.bytes at (body_fault f).at) in
+        let short : at + length text ≤ length s.bytes = omega (arith, inside, length-take (broken_end s.bytes at (body_fault f).at - at) (drop at s.bytes), length-drop at s.bytes) in
+        first_judged s at f (length text) (names aliases room [] false 0 s.put 0 text) h fails short (names_stop (length text) aliases room [] false 0 s.put 0 text (omega arith))
 
     opens_judged : (room : ℕ) (s : Place) (t : Token) (b z : Bool) → IsIn j s → token_at s.bytes s.at ≡ Ok t → opens_body s.bytes t.start ≡ b
         → Judged j (cond {A = Outcome (List ℕ)} b (cond z (Err (fault faults.TooMany t.start)) (body_by aliases room s t.start (end_of_body s.bytes t.start (max_open - room)))) (refuse s))

@@ -1,12 +1,13 @@
 -- The steps of the rule of operations.
-use Rattle.std.proofs.Common.{◌≡◌, ℕ, zero, suc, ◌-◌, ◌<◌, List, refl, ap, ◌∙◌, arith, Ok}
+use Rattle.std.proofs.Common.{◌≡◌, ℕ, zero, suc, ◌-◌, ◌<◌, Bool, true, false, cond, List, refl, ap, ◌∙◌, arith, Ok}
 use Rattle.mlir_parse.specs.declared.aliases.Alias.{Alias}
 use Rattle.mlir_parse.specs.declared.fault.ModFault.{ModFault}
 use Rattle.mlir_parse.specs.declared.operations.Front.{Front}
 use Rattle.mlir_parse.specs.declared.syn.SynRegion.{SynRegion}
 use Rattle.mlir_tree.specs.declared.refusal.Refusal.{Refusal}
 use Rattle.mlir_tree.specs.declared.refusal.Refusal.TheVariants as refusals
-use Rattle.mlir_parse.specs.Place.{Place}
+use Rattle.mlir_parse.specs.Place.{Place, spelling}
+use Rattle.mlir_parse.specs.Steps.{one_operation, has_operation, after_operation}
 use Rattle.mlir_parse.specs.Input.{Fails}
 use Rattle.mlir_parse.specs.Operations.{a_front, a_back, maybe_regions, an_operation, an_operation_in, two_deeper}
 
@@ -27,3 +28,13 @@ pub back_fails : (aliases : List Alias) (room : ℕ) (s s1 s2 : Place) (f : Fron
 unfolding an_operation
 back_fails aliases room s s1 s2 f found refusals.NoMemory h i j = tt
 back_fails aliases room s s1 s2 f found (refusals.Fault x) h i j = operation_is aliases room s ∙ rw (h, i, j) refl
+
+same_by : (s : Place) (b : Bool) → spelling (cond b (one_operation s) s) ≡ spelling s
+unfolding spelling
+same_by s true = refl
+same_by s false = refl
+
+-- The next token stays where an operation is counted.
+pub same_spelling : (s : Place) → spelling (after_operation s) ≡ spelling s
+unfolding after_operation
+same_spelling s = same_by s (has_operation s)

@@ -1,10 +1,9 @@
 -- A text is read as the one type or attribute that it spells.
-use Rattle.std.proofs.Common.{◌≡◌, ℕ, List, sym, subst, ◌∙◌, Bool, true, Result, Ok, Err, IfOk}
+use Rattle.std.proofs.Common.{◌≡◌, ℕ, List, sym, ◌∙◌, Result, Ok, Err, IfOk}
 use Rattle.std.specs.Prelude.{IsUtf8}
 use Rattle.mlir_tree.specs.declared.refusal.Refusal.{Refusal}
 use Rattle.mlir_tree.specs.declared.refusal.Refusal.TheVariants as refusals
 use Rattle.mlir_parse.specs.declared.fault.ModFault.{ModFault}
-use Rattle.mlir_parse.specs.declared.fault.ModKind.{ModKind}
 use Rattle.mlir_parse.specs.Input.{Gives}
 
 module _ {A : Type 0} (P : List ℕ → A → Type 0) (read : List ℕ → Result A ModFault) where

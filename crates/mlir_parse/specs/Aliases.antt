@@ -1,5 +1,6 @@
 -- Aliases (MLIR Language Reference, "Type Aliases" and "Attribute Value Aliases").
-use Rattle.std.specs.Prelude.{ℕ, Bool, ◌==◌, if◌then◌else◌, List, [], ◌∷◌, Option, Some, None}
+use Rattle.std.specs.Prelude.{◌≡◌, ℕ, Bool, ◌==◌, if◌then◌else◌, List, [], ◌∷◌, map, Option, Some, None, Vec, ⊤}
+use Rattle.std.specs.declared.alloc.Global.{Global}
 use Rattle.std.specs.List.{list_any}
 use Rattle.std.specs.Str.{bytes_eq}
 use Rattle.mlir_tree.specs.Tree.{Ty, Attr}
@@ -30,3 +31,12 @@ has_point name = list_any (λ b. b == 46) name
 -- how many bytes of text may be put in for aliases
 abbrev pub max_put : ℕ
 max_put = 67108864
+
+-- The aliases of a map by their names.
+abbrev pub defined : List (Vec ℕ Global × Alias) → List Alias
+defined es = map (λ e. e.1) es
+
+-- Each stands under its own name.
+abbrev pub AreNamed : List (Vec ℕ Global × Alias) → Type 0
+AreNamed [] = ⊤
+AreNamed (e ∷ es) = (e.0.items ≡ e.1.name) × AreNamed es

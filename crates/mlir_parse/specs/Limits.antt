@@ -1,5 +1,5 @@
 -- What every tree of a module file keeps: its limits, and the order of its dictionaries.
-use Rattle.std.specs.Prelude.{ℕ, zero, suc, ◌+◌, ◌≤◌, List, [], ◌∷◌, length, map, ⊤}
+use Rattle.std.specs.Prelude.{ℕ, suc, ◌+◌, ◌≤◌, List, length, map, ⊤}
 use Rattle.mlir_tree.specs.Range.{AreRising}
 use Rattle.mlir_parse.specs.declared.syn.SynEntry.{SynEntry}
 use Rattle.mlir_parse.specs.declared.syn.Syn.{Syn}

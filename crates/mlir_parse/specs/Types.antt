@@ -1,5 +1,5 @@
 -- Types, read from the front of a text.
-use Rattle.std.specs.Prelude.{ℕ, zero, suc, ◌+◌, ◌-◌, Bool, true, false, if◌then◌else◌, not, ◌==◌, ◌&&◌, ◌||◌, nat_le, List, [], ◌∷◌, ◌++◌, length, drop, slice_index, slice_range, Option, Some, None, Result, Ok, Err, codes}
+use Rattle.std.specs.Prelude.{ℕ, zero, suc, ◌+◌, ◌-◌, Bool, true, false, if◌then◌else◌, not, ◌==◌, ◌&&◌, ◌||◌, nat_le, nat_lt, List, [], ◌∷◌, ◌++◌, length, drop, slice_index, slice_range, Option, Some, None, Result, Ok, Err, codes}
 use Rattle.std.specs.List.{list_all}
 use Rattle.std.specs.Str.{bytes_eq}
 use Rattle.std.specs.Str.Parse.{digits_value}
@@ -79,9 +79,19 @@ abbrev pub named_by : Place → ℕ → ℕ → Names → Outcome (List ℕ)
 named_by s at end (Ok p) = Ok (p.0, record s { at = end; put = p.1 })
 named_by s at end (Err i) = Err (fault faults.TooMany (at + i))
 
+-- Where what there is of a body that breaks off ends: behind the byte of its fault.
+abbrev pub broken_end : List ℕ → ℕ → ℕ → ℕ
+broken_end bytes at stop = if nat_le at stop && nat_lt stop (length bytes) then stop + 1 else length bytes
+
+-- An alias that passes a limit before the fault of a body comes first.
+abbrev pub first_in_body : ℕ → BodyFault → Names → ModFault
+first_in_body at e (Ok p) = body_fault e
+first_in_body at e (Err i) = fault faults.TooMany (at + i)
+
 abbrev pub body_by : List Alias → ℕ → Place → ℕ → Result ℕ BodyFault → Outcome (List ℕ)
 body_by aliases room s at (Ok end) = named_by s at end (names aliases room [] false 0 s.put 0 (slice_range s.bytes at end))
-body_by aliases room s at (Err e) = Err (body_fault e)
+body_by aliases room s at (Err e) =
+    Err (first_in_body at e (names aliases room [] false 0 s.put 0 (slice_range s.bytes at (broken_end s.bytes at (body_fault e).at))))
 
 -- `<` with no `=` directly behind it
 abbrev pub opens_body : List ℕ → ℕ → Bool

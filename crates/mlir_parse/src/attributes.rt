@@ -8,7 +8,7 @@ ghost use Rattle.mlir_parse.specs.Place.{left, kind};
 ghost use Rattle.mlir_parse.specs.Input.{Reads, Gives, list, items, separated};
 ghost use Rattle.mlir_parse.specs.Attributes as spec;
 
-use crate::aliases::{Alias, Meaning, find, has_point};
+use crate::aliases::{Aliases, Meaning, has_point};
 use crate::dictionary::{has_name, in_order, no_entries, put_entry};
 use crate::fault::ModKind;
 use crate::numbers::number_of;
@@ -53,7 +53,7 @@ fn number_type(alloc: Global, float: bool) -> Result<Ty, AllocError>
 fn typed(
     alloc: Global,
     reader: &mut Reader<'_>,
-    aliases: &[Alias],
+    aliases: &Aliases,
     room: u32,
 ) -> Result<Option<Ty>, Refused>
     ensures { Reads (spec.typed aliases.now room reader.old) result reader.new }
@@ -69,7 +69,7 @@ fn typed(
 fn typed_number(
     alloc: Global,
     reader: &mut Reader<'_>,
-    aliases: &[Alias],
+    aliases: &Aliases,
     room: u32,
     float: bool,
 ) -> Result<(usize, Ty), Refused>
@@ -99,7 +99,7 @@ fn is_float(reader: &mut Reader<'_>) -> Result<bool, Refused>
 fn number(
     alloc: Global,
     reader: &mut Reader<'_>,
-    aliases: &[Alias],
+    aliases: &Aliases,
     room: u32,
     at: usize,
     neg: bool,
@@ -124,7 +124,7 @@ fn string_text(alloc: Global, text: &[u8]) -> Result<Text, AllocError>
 fn string(
     alloc: Global,
     reader: &mut Reader<'_>,
-    aliases: &[Alias],
+    aliases: &Aliases,
     room: u32,
 ) -> Result<Attr, Refused>
     ensures { Reads (spec.string aliases.now room reader.old) result reader.new }
@@ -139,7 +139,7 @@ fn string(
 fn kept_attr(
     alloc: Global,
     reader: &mut Reader<'_>,
-    aliases: &[Alias],
+    aliases: &Aliases,
     room: u32,
     front: &[u8],
 ) -> Result<Attr, Refused>
@@ -155,7 +155,7 @@ fn kept_attr(
 fn kept_word(
     alloc: Global,
     reader: &mut Reader<'_>,
-    aliases: &[Alias],
+    aliases: &Aliases,
     room: u32,
 ) -> Result<Attr, Refused>
     ensures { Reads (spec.kept_word aliases.now room reader.old) result reader.new }
@@ -172,7 +172,7 @@ fn kept_word(
 fn word_attr(
     alloc: Global,
     reader: &mut Reader<'_>,
-    aliases: &[Alias],
+    aliases: &Aliases,
     room: u32,
     word: &[u8],
 ) -> Result<Attr, Refused>
@@ -201,14 +201,14 @@ fn word_attr(
 fn alias_attr(
     alloc: Global,
     reader: &mut Reader<'_>,
-    aliases: &[Alias],
+    aliases: &Aliases,
     room: u32,
     at: usize,
     name: &[u8],
 ) -> Result<Attr, Refused>
     ensures { Reads (spec.alias_attr aliases.now room at name.now reader.old) result reader.new }
 {
-    let Some(alias) = find(aliases, name) else {
+    let Some(alias) = aliases.find(name) else {
         return Err(fail_at(ModKind::AliasUnknown, at));
     };
     let Meaning::Attr(attr) = &alias.meaning else {
@@ -225,7 +225,7 @@ fn alias_attr(
 fn pointed(
     alloc: Global,
     reader: &mut Reader<'_>,
-    aliases: &[Alias],
+    aliases: &Aliases,
     room: u32,
     name: &[u8],
 ) -> Result<Attr, Refused>
@@ -240,7 +240,7 @@ fn pointed(
 fn hash_attr(
     alloc: Global,
     reader: &mut Reader<'_>,
-    aliases: &[Alias],
+    aliases: &Aliases,
     room: u32,
 ) -> Result<Attr, Refused>
     ensures { Reads (spec.hash_attr aliases.now room reader.old) result reader.new }
@@ -308,7 +308,7 @@ pub fn entry_name(alloc: Global, reader: &mut Reader<'_>) -> Result<Text, Refuse
 fn flat_attr(
     alloc: Global,
     reader: &mut Reader<'_>,
-    aliases: &[Alias],
+    aliases: &Aliases,
     room: u32,
 ) -> Result<Attr, Refused>
     ensures { Reads (spec.flat_by aliases.now room (kind reader.old) reader.old) result reader.new }
@@ -342,7 +342,7 @@ fn flat_attr(
 pub fn attr(
     alloc: Global,
     reader: &mut Reader<'_>,
-    aliases: &[Alias],
+    aliases: &Aliases,
     room: u32,
 ) -> Result<Attr, Refused>
     ensures { Reads (spec.attr aliases.now room reader.old) result reader.new }
@@ -372,7 +372,7 @@ pub fn attr(
 fn array_attr(
     alloc: Global,
     reader: &mut Reader<'_>,
-    aliases: &[Alias],
+    aliases: &Aliases,
     room: u32,
 ) -> Result<Attr, Refused>
     ensures { Reads (spec.array_attr (spec.attr aliases.now room) reader.old) result reader.new }
@@ -391,7 +391,7 @@ fn array_attr(
 fn attr_items(
     alloc: Global,
     reader: &mut Reader<'_>,
-    aliases: &[Alias],
+    aliases: &Aliases,
     room: u32,
 ) -> Result<AttrList, Refused>
     ensures { Reads (items (spec.attr aliases.now room) reader.old) result reader.new }
@@ -412,7 +412,7 @@ fn attr_items(
 fn dict_attr(
     alloc: Global,
     reader: &mut Reader<'_>,
-    aliases: &[Alias],
+    aliases: &Aliases,
     room: u32,
 ) -> Result<Attr, Refused>
     ensures { Reads (spec.dict_attr (spec.attr aliases.now room) reader.old) result reader.new }
@@ -431,7 +431,7 @@ fn dict_attr(
 fn dict_entries(
     alloc: Global,
     reader: &mut Reader<'_>,
-    aliases: &[Alias],
+    aliases: &Aliases,
     room: u32,
 ) -> Result<Dict, Refused>
     ensures value { Reads (spec.all_entries (spec.attr aliases.now room) reader.old) result reader.new }
@@ -459,7 +459,7 @@ fn dict_entries(
 pub fn entry_value(
     alloc: Global,
     reader: &mut Reader<'_>,
-    aliases: &[Alias],
+    aliases: &Aliases,
     room: u32,
 ) -> Result<Attr, Refused>
     ensures { Reads (spec.entry_value (spec.attr aliases.now room) reader.old) result reader.new }
@@ -476,7 +476,8 @@ pub fn whole_attr(alloc: Global, bytes: &[u8]) -> Result<Attr, Refused>
     ensures { Gives result (spec.attr_of bytes.now) }
 {
     let mut reader = Reader::new(bytes);
-    let found = attr(alloc, &mut reader, &[], MAX_OPEN)?;
+    let aliases = Aliases::new(alloc);
+    let found = attr(alloc, &mut reader, &aliases, MAX_OPEN)?;
     if !reader.sees(TokenKind::End) {
         return Err(reader.refuse());
     }

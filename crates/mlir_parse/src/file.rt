@@ -1,16 +1,17 @@
 //! Alias definitions and module files.
 
-ghost use Rattle.std.specs.Prelude.{◌≡◌, ◌≤◌, IfOk, ℕ, List, [], length, true, Ok, Err};
+ghost use Rattle.std.specs.Prelude.{◌≡◌, ◌≤◌, IfOk, ℕ, List, [], length, true, Ok, Err, None};
 ghost use Rattle.std.specs.Str.Lossy.{utf8_valid_len};
 ghost use Rattle.mlir_parse.specs.declared.fault.ModFault.{ModFault as Fault};
 ghost use Rattle.mlir_parse.specs.declared.syn.Syn.{Syn as Read};
 ghost use Rattle.mlir_parse.specs.Faults.{is_spelling_fault};
 ghost use Rattle.mlir_parse.specs.Limits.{KeepsLimits};
 ghost use Rattle.mlir_parse.specs.Input.{Reads, Gives};
+ghost use Rattle.mlir_parse.specs.Aliases.{find};
 ghost use Rattle.mlir_parse.specs.ModuleFile as spec;
 ghost use Rattle.mlir_parse.specs.FileGrammar.{IsModuleFile};
 
-use crate::aliases::{Alias, Meaning, find, has_point};
+use crate::aliases::{Alias, Aliases, Meaning, has_point};
 use crate::attributes::attr;
 use crate::fault::{ModFault, ModKind};
 use crate::nesting::nesting;
@@ -52,13 +53,14 @@ fn alias_of(alloc: Global, name: &[u8], meaning: Meaning) -> Result<Alias, Alloc
 
 /// Whether the name, which stands at `at`, may be defined.
 #[tactic(auto, unfolding(crate::specs::ModuleFile::new_name))]
-fn new_name(aliases: &[Alias], at: usize, name: &[u8]) -> Result<(), Refused>
-    ensures { Gives result (spec.new_name aliases.now at name.now) }
+fn new_name(aliases: &Aliases, at: usize, name: &[u8]) -> Result<(), Refused>
+    ensures value { Gives result (spec.new_name aliases.now at name.now) }
+    ensures new { IfOk result (λ _. find name.now aliases.now ≡ None) }
 {
     if has_point(name) {
         return Err(fail_at(ModKind::Syntax, at));
     }
-    if find(aliases, name).is_some() {
+    if aliases.find(name).is_some() {
         return Err(fail_at(ModKind::AliasTwice, at));
     }
     Ok(())
@@ -69,7 +71,7 @@ fn new_name(aliases: &[Alias], at: usize, name: &[u8]) -> Result<(), Refused>
 fn hash_meaning(
     alloc: Global,
     reader: &mut Reader<'_>,
-    aliases: &[Alias],
+    aliases: &Aliases,
 ) -> Result<Meaning, Refused>
     ensures { Reads (spec.hash_meaning aliases.now reader.old) result reader.new }
 {
@@ -84,7 +86,7 @@ fn hash_meaning(
 fn meaning(
     alloc: Global,
     reader: &mut Reader<'_>,
-    aliases: &[Alias],
+    aliases: &Aliases,
     hash: bool,
 ) -> Result<Meaning, Refused>
     ensures { Reads (spec.meaning aliases.now hash reader.old) result reader.new }
@@ -100,9 +102,10 @@ fn meaning(
 fn alias_definition(
     alloc: Global,
     reader: &mut Reader<'_>,
-    aliases: &[Alias],
+    aliases: &Aliases,
 ) -> Result<Alias, Refused>
-    ensures { Reads (spec.alias_definition aliases.now reader.old) result reader.new }
+    ensures value { Reads (spec.alias_definition aliases.now reader.old) result reader.new }
+    ensures new { IfOk result (λ a. find a.name aliases.now ≡ None) }
 {
     let hash = reader.sees(TokenKind::Hash);
     let at = reader.start();
@@ -118,17 +121,17 @@ fn alias_definition(
 fn operations(alloc: Global, reader: &mut Reader<'_>) -> Result<Items<SynOp>, Refused>
     ensures { Reads (spec.all_operations reader.old) result reader.new }
 {
-    let mut aliases = Items::new(alloc);
+    let mut aliases = Aliases::new(alloc);
     let mut found = Items::new(alloc);
     for _turn in 0..reader.left() {
         if reader.sees(TokenKind::End) {
             return Ok(found);
         }
         if reader.sees(TokenKind::Hash) || reader.sees(TokenKind::Bang) {
-            let alias = alias_definition(alloc, reader, aliases.as_slice())?;
-            aliases.push(alias)?;
+            let alias = alias_definition(alloc, reader, &aliases)?;
+            aliases.define(alloc, alias)?;
         } else {
-            found.push(operation(alloc, reader, aliases.as_slice(), MAX_OPEN)?)?;
+            found.push(operation(alloc, reader, &aliases, MAX_OPEN)?)?;
         }
     }
     if !reader.sees(TokenKind::End) {

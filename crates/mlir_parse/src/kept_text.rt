@@ -6,7 +6,7 @@ ghost use Rattle.mlir_lexer.specs.Scan as scan;
 ghost use Rattle.mlir_parse.specs.KeptText as spec;
 ghost use Rattle.mlir_parse.specs.Aliases as alias_spec;
 
-use crate::aliases::{Alias, Meaning, find, has_point};
+use crate::aliases::{Alias, Aliases, Meaning, has_point};
 use crate::reader::MAX_PUT;
 use mlir_lexer::body::{Effect, closer_of, effect_of};
 use std::alloc::{AllocError, Global};
@@ -55,10 +55,10 @@ fn is_location(meaning: &Meaning) -> bool
 }
 
 /// The definition of this name, unless it is a location.
-fn find_text<'t>(aliases: &'t [Alias], name: &[u8]) -> Option<&'t Alias>
+fn find_text<'t>(aliases: &'t Aliases, name: &[u8]) -> Option<&'t Alias>
     ensures { option_copied result ≡ spec.unless_location (alias_spec.find name.now aliases.now) }
 {
-    let alias = find(aliases, name)?;
+    let alias = aliases.find(name)?;
     if is_location(&alias.meaning) {
         None
     } else {
@@ -74,7 +74,7 @@ fn is_mark(b: u8) -> bool
 
 /// The alias whose name stands at the front of this part of a body.
 #[tactic(auto, unfolding(crate::specs::KeptText::used_at))]
-fn used_at<'t>(aliases: &'t [Alias], text: &[u8]) -> Option<&'t Alias>
+fn used_at<'t>(aliases: &'t Aliases, text: &[u8]) -> Option<&'t Alias>
     ensures { option_copied result ≡ spec.used_at aliases.now text.now }
 {
     let [mark, rest @ ..] = text else {
@@ -130,7 +130,7 @@ fn pass_byte(closers: &mut Vec<u8>, b: u8, next: u8, dash: bool) -> Result<(), A
 /// The text of a body with its aliases replaced, and how much was put in by then, or the place of the alias that passes a limit.
 pub fn names(
     alloc: Global,
-    aliases: &[Alias],
+    aliases: &Aliases,
     body: &[u8],
     room: u32,
     put: usize,

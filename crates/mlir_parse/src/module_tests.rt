@@ -283,6 +283,44 @@ fn has_value(alloc: Global, file: &Syn, text: &[u8]) -> Result<bool, AllocError>
     }
 }
 
+/// A definition of an alias with so many open brackets, and an attribute that uses it within as many, and then this text.
+fn nested_use(alloc: Global, depth: usize, rest: &[u8]) -> Result<Vec<u8>, AllocError> {
+    let mut text = Vec::from_slice(alloc, b"#a = t<")?;
+    for _turn in 0..depth {
+        text.push(b'(')?;
+    }
+    for _turn in 0..depth {
+        text.push(b')')?;
+    }
+    text.extend_from_slice(b"> #b = t<")?;
+    for _turn in 0..depth {
+        text.push(b'(')?;
+    }
+    text.extend_from_slice(rest)?;
+    Ok(text)
+}
+
+#[test]
+fn aliases_that_pass_a_limit_in_broken_bodies(rt: HostRuntime) -> Result<(), Fail> {
+    let alloc = rt.alloc();
+    let rows: [(&[u8], usize, ModKind, usize); 5] = [
+        (b" #a", 130, ModKind::TooMany, 407),
+        (b" #a ]", 130, ModKind::TooMany, 407),
+        (b" #a \"", 130, ModKind::TooMany, 407),
+        (b" #a", 10, ModKind::Syntax, 49),
+        (b"] #a", 130, ModKind::Syntax, 406),
+    ];
+    for (rest, depth, kind, at) in rows {
+        assert!(rt; depth < 1000);
+        let text = nested_use(alloc, depth, rest)?;
+        assert_eq!(rt;
+            fault_of(alloc, text.as_slice()),
+            Some(ModFault { kind, at })
+        );
+    }
+    Ok(())
+}
+
 /// A module with aliases, and an operation whose only entry has this text.
 fn entry_with_aliases(alloc: Global, value: &[u8]) -> Result<Vec<u8>, AllocError> {
     let mut text = Vec::from_slice(alloc, b"#a = 3 : i64\n!b = i32\n#l = loc(x)\n")?;
@@ -315,5 +353,43 @@ fn aliases_in_kept_bodies(rt: HostRuntime) -> Result<(), Fail> {
             Err(_) => assert!(rt; false),
         }
     }
+    Ok(())
+}
+
+/// As many lines.
+fn repeated(alloc: Global, line: &[u8], count: usize) -> Result<Vec<u8>, AllocError> {
+    let mut text = Vec::new(alloc);
+    for _ in 0..count {
+        text.extend_from_slice(line)?;
+    }
+    Ok(text)
+}
+
+#[test]
+fn one_operation_too_many(rt: HostRuntime) -> Result<(), Fail> {
+    let alloc = rt.alloc();
+    let line = b"\"a\"() : () -> ()\n".as_slice();
+    let text = repeated(alloc, line, 1_000_001)?;
+    let fault = ModFault {
+        kind: ModKind::TooMany,
+        at: 1_000_000 * line.len(),
+    };
+    assert_eq!(rt; fault_of(alloc, text.as_slice()), Some(fault));
+    Ok(())
+}
+
+#[test]
+fn too_many_bytes_put_in_for_aliases(rt: HostRuntime) -> Result<(), Fail> {
+    let alloc = rt.alloc();
+    let mut text = Vec::from_slice(alloc, b"#a = \"")?;
+    text.resize(1_048_576 + 4, b'x')?;
+    text.extend_from_slice(b"\"\n\"t.a\"() {v = [")?;
+    let first = text.len();
+    text.extend_from_slice(repeated(alloc, b"#a,", 100)?.as_slice())?;
+    let fault = ModFault {
+        kind: ModKind::TooMany,
+        at: first + 3 * 64,
+    };
+    assert_eq!(rt; fault_of(alloc, text.as_slice()), Some(fault));
     Ok(())
 }

@@ -10,11 +10,11 @@ ghost use Rattle.mlir_parse.specs.Steps as steps;
 ghost use Rattle.mlir_parse.specs.Operations as spec;
 ghost use Rattle.mlir_lexer.specs.declared.token.TokenKind.TheVariants.{RightBrace};
 
-use crate::aliases::Alias;
+use crate::aliases::Aliases;
 use crate::fault::ModKind;
 use crate::numbers::{magnitude, token_value};
 use crate::placed::{maybe_dictionary, maybe_properties};
-use crate::reader::{MAX_PARTS, Reader, Refused, fail_at};
+use crate::reader::{MAX_PARTS, Reader, Refused, fail_at, room_for_one};
 use crate::syn::{SynArg, SynEntry, SynOp, SynRegion, SynResult, SynUse};
 use crate::types::ty;
 use mlir_lexer::TokenKind;
@@ -121,7 +121,7 @@ fn a_result(alloc: Global, reader: &mut Reader<'_>) -> Result<SynResult, Refused
 fn result_items(alloc: Global, reader: &mut Reader<'_>) -> Result<Items<SynResult>, Refused>
     ensures { Reads (items spec.a_result reader.old) result reader.new }
 {
-    let mut found = Items::new(alloc);
+    let mut found = room_for_one(alloc)?;
     for _turn in 0..reader.left() {
         found.push(a_result(alloc, reader)?)?;
         if !reader.eat(TokenKind::Comma) {
@@ -212,7 +212,7 @@ fn a_use(alloc: Global, reader: &mut Reader<'_>, before: usize) -> Result<SynUse
 fn use_items(alloc: Global, reader: &mut Reader<'_>) -> Result<Items<SynUse>, Refused>
     ensures { Reads (steps.counted_items spec.a_use reader.old) result reader.new }
 {
-    let mut found = Items::new(alloc);
+    let mut found = room_for_one(alloc)?;
     for _turn in 0..reader.left() {
         let before = found.len();
         found.push(a_use(alloc, reader, before)?)?;
@@ -256,7 +256,7 @@ fn string_text(alloc: Global, text: &[u8]) -> Result<Text, AllocError>
     Ok(Items::from_vec(read_string(alloc, text)?))
 }
 
-#[tactic(auto, unfolding(crate::specs::Operations::name_here))]
+#[tactic(auto, using(crate::proofs::OperationSteps::same_spelling), unfolding(crate::specs::Operations::name_here))]
 fn name_here(alloc: Global, reader: &mut Reader<'_>) -> Result<Text, Refused>
     ensures { Reads (spec.name_here reader.old) result reader.new }
 {
@@ -267,7 +267,8 @@ fn name_here(alloc: Global, reader: &mut Reader<'_>) -> Result<Text, Refused>
     if !reader.take_operation() {
         return Err(reader.fail(ModKind::TooMany));
     }
-    Ok(string_text(alloc, reader.take())?)
+    reader.take();
+    Ok(name)
 }
 
 /// The name of an operation. A word there is an operation in a custom form.
@@ -307,12 +308,12 @@ pub struct FunctionType {
 fn operand_type_items(
     alloc: Global,
     reader: &mut Reader<'_>,
-    aliases: &[Alias],
+    aliases: &Aliases,
     room: u32,
 ) -> Result<TyList, Refused>
     ensures { Reads (items (types.ty aliases.now room) reader.old) result reader.new }
 {
-    let mut found = Items::new(alloc);
+    let mut found = room_for_one(alloc)?;
     for _turn in 0..reader.left() {
         found.push(ty(alloc, reader, aliases, room)?)?;
         if !reader.eat(TokenKind::Comma) {
@@ -326,7 +327,7 @@ fn operand_type_items(
 fn operand_types_inside(
     alloc: Global,
     reader: &mut Reader<'_>,
-    aliases: &[Alias],
+    aliases: &Aliases,
     room: u32,
 ) -> Result<TyList, Refused>
     ensures { Reads (spec.operand_types_inside aliases.now room reader.old) result reader.new }
@@ -341,7 +342,7 @@ fn operand_types_inside(
 fn operand_types(
     alloc: Global,
     reader: &mut Reader<'_>,
-    aliases: &[Alias],
+    aliases: &Aliases,
     room: u32,
 ) -> Result<TyList, Refused>
     ensures { Reads (spec.operand_types aliases.now room reader.old) result reader.new }
@@ -369,7 +370,7 @@ fn first_fault(at: usize, read: Result<Ty, Refused>) -> Refused
 fn result_type(
     alloc: Global,
     reader: &mut Reader<'_>,
-    aliases: &[Alias],
+    aliases: &Aliases,
     room: u32,
     before: usize,
 ) -> Result<Ty, Refused>
@@ -387,12 +388,12 @@ fn result_type(
 fn result_type_items(
     alloc: Global,
     reader: &mut Reader<'_>,
-    aliases: &[Alias],
+    aliases: &Aliases,
     room: u32,
 ) -> Result<TyList, Refused>
     ensures { Reads (steps.counted_items (spec.result_type (types.ty aliases.now room)) reader.old) result reader.new }
 {
-    let mut found = Items::new(alloc);
+    let mut found = room_for_one(alloc)?;
     for _turn in 0..reader.left() {
         let before = found.len();
         found.push(result_type(alloc, reader, aliases, room, before)?)?;
@@ -407,7 +408,7 @@ fn result_type_items(
 fn result_types_inside(
     alloc: Global,
     reader: &mut Reader<'_>,
-    aliases: &[Alias],
+    aliases: &Aliases,
     room: u32,
 ) -> Result<TyList, Refused>
     ensures { Reads (spec.result_types_inside aliases.now room reader.old) result reader.new }
@@ -422,7 +423,7 @@ fn result_types_inside(
 fn result_types_in_brackets(
     alloc: Global,
     reader: &mut Reader<'_>,
-    aliases: &[Alias],
+    aliases: &Aliases,
     room: u32,
 ) -> Result<TyList, Refused>
     ensures { Reads (spec.result_types_in_brackets aliases.now room reader.old) result reader.new }
@@ -436,12 +437,12 @@ fn result_types_in_brackets(
 fn one_result_type(
     alloc: Global,
     reader: &mut Reader<'_>,
-    aliases: &[Alias],
+    aliases: &Aliases,
     room: u32,
 ) -> Result<TyList, Refused>
     ensures { Reads (spec.one_result_type aliases.now room reader.old) result reader.new }
 {
-    let mut found = Items::new(alloc);
+    let mut found = room_for_one(alloc)?;
     found.push(result_type(alloc, reader, aliases, room, 0)?)?;
     Ok(found)
 }
@@ -451,7 +452,7 @@ fn one_result_type(
 fn result_types(
     alloc: Global,
     reader: &mut Reader<'_>,
-    aliases: &[Alias],
+    aliases: &Aliases,
     room: u32,
 ) -> Result<TyList, Refused>
     ensures { Reads (spec.result_types aliases.now room reader.old) result reader.new }
@@ -469,7 +470,7 @@ fn result_types(
 fn signature(
     alloc: Global,
     reader: &mut Reader<'_>,
-    aliases: &[Alias],
+    aliases: &Aliases,
     room: u32,
 ) -> Result<FunctionType, Refused>
     ensures { Reads (spec.signature aliases.now room reader.old) result reader.new }
@@ -504,7 +505,7 @@ pub struct Back {
 fn a_front(
     alloc: Global,
     reader: &mut Reader<'_>,
-    aliases: &[Alias],
+    aliases: &Aliases,
     room: u32,
 ) -> Result<Front, Refused>
     ensures { Reads (spec.a_front aliases.now room reader.old) result reader.new }
@@ -528,7 +529,7 @@ fn a_front(
 fn a_back(
     alloc: Global,
     reader: &mut Reader<'_>,
-    aliases: &[Alias],
+    aliases: &Aliases,
     room: u32,
 ) -> Result<Back, Refused>
     ensures { Reads (spec.a_back aliases.now room reader.old) result reader.new }
@@ -577,7 +578,7 @@ fn joined(front: Front, regions: Items<SynRegion>, back: Back) -> SynOp
 fn argument_here(
     alloc: Global,
     reader: &mut Reader<'_>,
-    aliases: &[Alias],
+    aliases: &Aliases,
     room: u32,
 ) -> Result<SynArg, Refused>
     ensures { Reads (spec.argument_here aliases.now room reader.old) result reader.new }
@@ -595,7 +596,7 @@ fn argument_here(
 fn argument(
     alloc: Global,
     reader: &mut Reader<'_>,
-    aliases: &[Alias],
+    aliases: &Aliases,
     room: u32,
     before: usize,
 ) -> Result<SynArg, Refused>
@@ -614,12 +615,12 @@ fn argument(
 fn argument_items(
     alloc: Global,
     reader: &mut Reader<'_>,
-    aliases: &[Alias],
+    aliases: &Aliases,
     room: u32,
 ) -> Result<Items<SynArg>, Refused>
     ensures { Reads (steps.counted_items (spec.argument aliases.now room) reader.old) result reader.new }
 {
-    let mut found = Items::new(alloc);
+    let mut found = room_for_one(alloc)?;
     for _turn in 0..reader.left() {
         let before = found.len();
         found.push(argument(alloc, reader, aliases, room, before)?)?;
@@ -634,7 +635,7 @@ fn argument_items(
 fn arguments_inside(
     alloc: Global,
     reader: &mut Reader<'_>,
-    aliases: &[Alias],
+    aliases: &Aliases,
     room: u32,
 ) -> Result<Items<SynArg>, Refused>
     ensures { Reads (spec.arguments_inside aliases.now room reader.old) result reader.new }
@@ -649,7 +650,7 @@ fn arguments_inside(
 fn maybe_arguments(
     alloc: Global,
     reader: &mut Reader<'_>,
-    aliases: &[Alias],
+    aliases: &Aliases,
     room: u32,
 ) -> Result<Items<SynArg>, Refused>
     ensures { Reads (spec.maybe_arguments aliases.now room reader.old) result reader.new }
@@ -668,7 +669,7 @@ fn maybe_arguments(
 fn maybe_label(
     alloc: Global,
     reader: &mut Reader<'_>,
-    aliases: &[Alias],
+    aliases: &Aliases,
     room: u32,
 ) -> Result<Items<SynArg>, Refused>
     ensures { Reads (spec.maybe_label aliases.now room reader.old) result reader.new }
@@ -688,7 +689,7 @@ fn maybe_label(
 fn inner_operation(
     alloc: Global,
     reader: &mut Reader<'_>,
-    aliases: &[Alias],
+    aliases: &Aliases,
     room: u32,
 ) -> Result<SynOp, Refused>
     requires { 1 < room }
@@ -705,7 +706,7 @@ fn inner_operation(
 fn inner_operations(
     alloc: Global,
     reader: &mut Reader<'_>,
-    aliases: &[Alias],
+    aliases: &Aliases,
     room: u32,
 ) -> Result<Items<SynOp>, Refused>
     requires { 1 < room }
@@ -729,7 +730,7 @@ fn inner_operations(
 fn region_inside(
     alloc: Global,
     reader: &mut Reader<'_>,
-    aliases: &[Alias],
+    aliases: &Aliases,
     room: u32,
 ) -> Result<SynRegion, Refused>
     requires { 1 < room }
@@ -746,7 +747,7 @@ fn region_inside(
 fn region(
     alloc: Global,
     reader: &mut Reader<'_>,
-    aliases: &[Alias],
+    aliases: &Aliases,
     room: u32,
     before: usize,
 ) -> Result<SynRegion, Refused>
@@ -767,13 +768,13 @@ fn region(
 fn region_items(
     alloc: Global,
     reader: &mut Reader<'_>,
-    aliases: &[Alias],
+    aliases: &Aliases,
     room: u32,
 ) -> Result<Items<SynRegion>, Refused>
     requires { 0 < room }
     ensures { Reads (spec.regions_inside aliases.now (spec.two_deeper aliases.now room) (room - 1) reader.old) result reader.new }
 {
-    let mut found = Items::new(alloc);
+    let mut found = room_for_one(alloc)?;
     for _turn in 0..reader.left() {
         let before = found.len();
         found.push(region(alloc, reader, aliases, room, before)?)?;
@@ -789,7 +790,7 @@ fn region_items(
 fn maybe_regions(
     alloc: Global,
     reader: &mut Reader<'_>,
-    aliases: &[Alias],
+    aliases: &Aliases,
     room: u32,
 ) -> Result<Items<SynRegion>, Refused>
     ensures { Reads (spec.maybe_regions aliases.now (spec.two_deeper aliases.now room) room reader.old) result reader.new }
@@ -809,7 +810,7 @@ fn maybe_regions(
 pub fn operation(
     alloc: Global,
     reader: &mut Reader<'_>,
-    aliases: &[Alias],
+    aliases: &Aliases,
     room: u32,
 ) -> Result<SynOp, Refused>
     ensures { Reads (spec.an_operation_in aliases.now room reader.old) result reader.new }

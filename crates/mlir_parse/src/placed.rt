@@ -5,7 +5,7 @@ ghost use Rattle.mlir_parse.specs.Input.{Reads};
 ghost use Rattle.mlir_parse.specs.Attributes.{attr};
 ghost use Rattle.mlir_parse.specs.Entries as spec;
 
-use crate::aliases::Alias;
+use crate::aliases::Aliases;
 use crate::attributes::{entry_name, entry_value};
 use crate::fault::ModKind;
 use crate::reader::{Reader, Refused, fail_at};
@@ -66,7 +66,7 @@ fn in_order(alloc: Global, found: Placed) -> Result<Items<SynEntry>, AllocError>
 fn placed_entries(
     alloc: Global,
     reader: &mut Reader<'_>,
-    aliases: &[Alias],
+    aliases: &Aliases,
     room: u32,
 ) -> Result<Items<SynEntry>, Refused>
     ensures { Reads (spec.all_placed_entries (attr aliases.now room) reader.old) result reader.new }
@@ -91,7 +91,7 @@ fn placed_entries(
 fn dictionary_inside(
     alloc: Global,
     reader: &mut Reader<'_>,
-    aliases: &[Alias],
+    aliases: &Aliases,
     room: u32,
 ) -> Result<Items<SynEntry>, Refused>
     ensures { Reads (spec.dictionary_inside aliases.now room reader.old) result reader.new }
@@ -107,7 +107,7 @@ fn dictionary_inside(
 fn dictionary(
     alloc: Global,
     reader: &mut Reader<'_>,
-    aliases: &[Alias],
+    aliases: &Aliases,
     room: u32,
 ) -> Result<Items<SynEntry>, Refused>
     ensures { Reads (spec.dictionary aliases.now room reader.old) result reader.new }
@@ -123,7 +123,7 @@ fn dictionary(
 pub fn maybe_dictionary(
     alloc: Global,
     reader: &mut Reader<'_>,
-    aliases: &[Alias],
+    aliases: &Aliases,
     room: u32,
 ) -> Result<Items<SynEntry>, Refused>
     ensures { Reads (spec.maybe_dictionary aliases.now room reader.old) result reader.new }
@@ -139,7 +139,7 @@ pub fn maybe_dictionary(
 pub fn maybe_properties(
     alloc: Global,
     reader: &mut Reader<'_>,
-    aliases: &[Alias],
+    aliases: &Aliases,
     room: u32,
 ) -> Result<Items<SynEntry>, Refused>
     ensures { Reads (spec.maybe_properties aliases.now room reader.old) result reader.new }

@@ -1,17 +1,17 @@
 //! A text that is read token by token.
 
-ghost use Rattle.std.specs.Prelude.{◌≡◌, ◌≤◌, ◌<◌, ◌++◌, length, slice_index, IfOk, OnOk};
+ghost use Rattle.std.specs.Prelude.{◌≡◌, ◌≤◌, ◌<◌, ◌++◌, [], length, slice_index, IfOk, OnOk, Err};
 ghost use Rattle.mlir_parse.specs.Types as types;
 ghost use Rattle.mlir_parse.specs.Place as place;
 ghost use Rattle.mlir_parse.specs.Steps as steps;
-ghost use Rattle.mlir_parse.specs.Input.{after, expect, Reads};
+ghost use Rattle.mlir_parse.specs.Input.{after, expect, Reads, Fails};
 ghost use Rattle.mlir_tree.specs.declared.refusal.Refusal.TheVariants as refusals;
 
-use crate::aliases::Alias;
+use crate::aliases::{Alias, Aliases};
 use crate::fault::{ModFault, ModKind};
 use crate::kept_text::names;
 use crate::locations::balanced;
-use mlir_lexer::{BodyFault, LexFault, TokenKind, body_end, next_token};
+use mlir_lexer::{BodyFault, LexFault, Token, TokenKind, body_end, next_token};
 use mlir_tree::refusal::Refusal;
 use mlir_tree::text::Text;
 use sqlite_items::Items;
@@ -26,6 +26,8 @@ pub type Refused = Refusal<ModFault>;
 pub struct Reader<'a> {
     bytes: &'a [u8],
     at: usize,
+    /// The next token, or why there is none.
+    token: Result<Token, LexFault>,
     /// The bytes of text that were put in for aliases.
     put: usize,
     operations: usize,
@@ -34,7 +36,8 @@ pub struct Reader<'a> {
 }
 
 impl<'a> Model for Reader<'a> {
-    ghost use Rattle.std.specs.Prelude.{◌≤◌, length};
+    ghost use Rattle.std.specs.Prelude.{◌≡◌, ◌≤◌, length, IfOk};
+    ghost use Rattle.mlir_lexer.specs.Scan.{token_at};
     ghost use Rattle.mlir_parse.specs.Place.{Place, place_code};
 
     ghost Value = { Place };
@@ -43,7 +46,7 @@ impl<'a> Model for Reader<'a> {
 
     ghost view = { λ r. record { bytes = r.bytes.now; at = r.at; put = r.put; operations = r.operations; slots = r.slots } };
 
-    ghost invariant = { λ r. (r.at ≤ length r.bytes.now) × (r.put ≤ 67108864) × (r.operations ≤ 1000000) × (r.slots ≤ 16000000) };
+    ghost invariant = { λ r. (r.at ≤ length r.bytes.now) × (r.token ≡ token_at r.bytes.now r.at) × IfOk r.token (λ t. (t.start ≤ t.end) × (t.end ≤ length r.bytes.now)) × (r.put ≤ 67108864) × (r.operations ≤ 1000000) × (r.slots ≤ 16000000) };
 }
 
 impl<'a> Reader<'a> {
@@ -53,10 +56,20 @@ impl<'a> Reader<'a> {
         Reader {
             bytes,
             at: 0,
+            token: next_token(bytes, 0),
             put: 0,
             operations: 0,
             slots: 0,
         }
+    }
+
+    /// Goes on at another place.
+    fn go_to(&mut self, at: usize)
+        requires { at ≤ length self.old.bytes }
+        ensures { self.new ≡ place.moved self.old at }
+    {
+        self.at = at;
+        self.token = next_token(self.bytes, at);
     }
 
     /// How many bytes are left.
@@ -70,7 +83,7 @@ impl<'a> Reader<'a> {
     pub fn kind(&self) -> Option<TokenKind>
         ensures { result ≡ place.kind self.now }
     {
-        match next_token(self.bytes, self.at) {
+        match self.token {
             Ok(token) => Some(token.kind),
             Err(_) => None,
         }
@@ -80,7 +93,7 @@ impl<'a> Reader<'a> {
     pub fn sees(&self, kind: TokenKind) -> bool
         ensures { result ≡ place.sees kind self.now }
     {
-        match next_token(self.bytes, self.at) {
+        match self.token {
             Ok(token) => token.kind == kind,
             Err(_) => false,
         }
@@ -91,7 +104,7 @@ impl<'a> Reader<'a> {
     pub fn start(&self) -> usize
         ensures { result ≡ place.start self.now }
     {
-        match next_token(self.bytes, self.at) {
+        match self.token {
             Ok(token) => token.start,
             Err(LexFault::BadByte(at)) => at,
             Err(LexFault::BadString(at)) => at,
@@ -103,7 +116,7 @@ impl<'a> Reader<'a> {
     pub fn spelling(&self) -> &'a [u8]
         ensures { result.now ≡ place.spelling self.now }
     {
-        match next_token(self.bytes, self.at) {
+        match self.token {
             Ok(token) => &self.bytes[token.start..token.end],
             Err(_) => b"",
         }
@@ -115,10 +128,11 @@ impl<'a> Reader<'a> {
         ensures value { result.now ≡ place.spelling self.old }
         ensures rest { self.new ≡ place.next self.old }
     {
-        match next_token(self.bytes, self.at) {
+        match self.token {
             Ok(token) => {
-                self.at = token.end;
-                &self.bytes[token.start..token.end]
+                let text = &self.bytes[token.start..token.end];
+                self.go_to(token.end);
+                text
             }
             Err(_) => b"",
         }
@@ -128,7 +142,7 @@ impl<'a> Reader<'a> {
     pub fn refuse(&self) -> Refused
         ensures { result ≡ refusals.Fault (place.refusal self.now) }
     {
-        Refusal::Fault(match next_token(self.bytes, self.at) {
+        Refusal::Fault(match self.token {
             Ok(token) => fault_at(ModKind::Syntax, token.start),
             Err(LexFault::BadByte(at)) => fault_at(ModKind::BadByte, at),
             Err(LexFault::BadString(at)) => fault_at(ModKind::BadString, at),
@@ -216,7 +230,7 @@ impl<'a> Reader<'a> {
     {
         match balanced(self.bytes, room, self.at) {
             Ok(end) => {
-                self.at = end;
+                self.go_to(end);
                 Ok(())
             }
             Err(fault) => Err(Refusal::Fault(body_fault(fault))),
@@ -240,13 +254,13 @@ impl<'a> Reader<'a> {
     pub fn kept(
         &mut self,
         alloc: Global,
-        aliases: &[Alias],
+        aliases: &Aliases,
         front: &[u8],
         room: u32,
     ) -> Result<Text, Refused>
         ensures { Reads (types.kept aliases.now front.now room self.old) result self.new }
     {
-        let Ok(token) = next_token(self.bytes, self.at) else {
+        let Ok(token) = self.token else {
             return Err(self.refuse());
         };
         if !opens_body(self.bytes, token.start) {
@@ -260,14 +274,39 @@ impl<'a> Reader<'a> {
                 let body = &self.bytes[token.start..end];
                 match names(alloc, aliases, body, room, self.put)? {
                     Ok((text, put)) => {
-                        self.at = end;
+                        self.go_to(end);
                         self.put = put;
                         Ok(joined(alloc, front, text.as_slice())?)
                     }
                     Err(i) => Err(fail_at(ModKind::TooMany, token.start + i)),
                 }
             }
-            Err(fault) => Err(Refusal::Fault(body_fault(fault))),
+            Err(fault) => Err(self.broken_body(alloc, aliases, room, token.start, fault)),
+        }
+    }
+
+    /// The fault of a kept body that begins at `start` and breaks off: that of an alias before that passes a limit, or else this one.
+    fn broken_body(
+        &self,
+        alloc: Global,
+        aliases: &Aliases,
+        room: u32,
+        start: usize,
+        fault: BodyFault,
+    ) -> Refused
+        requires { start ≤ length self.now.bytes }
+        ensures { Fails result (types.body_by aliases.now room self.now start (Err fault)) }
+    {
+        let fault = body_fault(fault);
+        let end = if start <= fault.at && fault.at < self.bytes.len() {
+            fault.at + 1
+        } else {
+            self.bytes.len()
+        };
+        match names(alloc, aliases, &self.bytes[start..end], room, self.put) {
+            Ok(Ok(_)) => Refusal::Fault(fault),
+            Ok(Err(i)) => fail_at(ModKind::TooMany, start + i),
+            Err(AllocError) => Refusal::NoMemory,
         }
     }
 }
@@ -308,6 +347,13 @@ fn body_fault(fault: BodyFault) -> ModFault
         BodyFault::TooDeep(at) => fault_at(ModKind::TooMany, at),
         BodyFault::BadString(at) => fault_at(ModKind::BadString, at),
     }
+}
+
+/// An empty list with room for one item.
+pub fn room_for_one<T>(alloc: Global) -> Result<Items<T>, AllocError>
+    ensures { IfOk result (λ items. items ≡ []) }
+{
+    Ok(Items::from_vec(Vec::with_capacity(alloc, 1)?))
 }
 
 /// The bytes of both texts.

@@ -8,10 +8,10 @@ ghost use Rattle.mlir_lexer.specs.declared.token.TokenKind.TheVariants.{RightPar
 ghost use Rattle.mlir_parse.specs.Input.{Reads, Gives, list, items};
 ghost use Rattle.mlir_parse.specs.Types as spec;
 
-use crate::aliases::{Alias, Meaning, find, has_point};
+use crate::aliases::{Aliases, Meaning, has_point};
 use crate::fault::ModKind;
 use crate::numbers::magnitude;
-use crate::reader::{MAX_OPEN, Reader, Refused, fail_at};
+use crate::reader::{MAX_OPEN, Reader, Refused, fail_at, room_for_one};
 use mlir_lexer::TokenKind;
 use mlir_tree::sign::Sign;
 use mlir_tree::ty::{Ty, TyList};
@@ -96,14 +96,14 @@ fn leaf(alloc: Global, at: usize, word: &[u8]) -> Result<Ty, Refused>
 fn alias_ty(
     alloc: Global,
     reader: &mut Reader<'_>,
-    aliases: &[Alias],
+    aliases: &Aliases,
     room: u32,
     at: usize,
     name: &[u8],
 ) -> Result<Ty, Refused>
     ensures { Reads (spec.alias_ty aliases.now room at name.now reader.old) result reader.new }
 {
-    let Some(alias) = find(aliases, name) else {
+    let Some(alias) = aliases.find(name) else {
         return Err(fail_at(ModKind::AliasUnknown, at));
     };
     let Meaning::Ty(ty) = &alias.meaning else {
@@ -120,7 +120,7 @@ fn alias_ty(
 pub fn word_type(
     alloc: Global,
     reader: &mut Reader<'_>,
-    aliases: &[Alias],
+    aliases: &Aliases,
     room: u32,
 ) -> Result<Ty, Refused>
     ensures { Reads (spec.word_type aliases.now room reader.old) result reader.new }
@@ -141,7 +141,7 @@ pub fn word_type(
 pub fn bang_type(
     alloc: Global,
     reader: &mut Reader<'_>,
-    aliases: &[Alias],
+    aliases: &Aliases,
     room: u32,
 ) -> Result<Ty, Refused>
     ensures { Reads (spec.bang_type aliases.now room reader.old) result reader.new }
@@ -160,7 +160,7 @@ pub fn bang_type(
 fn one(alloc: Global, ty: Ty) -> Result<TyList, AllocError>
     ensures { IfOk result (λ all. all ≡ ty ∷ []) }
 {
-    let mut all = Items::new(alloc);
+    let mut all = room_for_one(alloc)?;
     all.push(ty)?;
     Ok(all)
 }
@@ -171,7 +171,7 @@ fn one(alloc: Global, ty: Ty) -> Result<TyList, AllocError>
 pub fn ty(
     alloc: Global,
     reader: &mut Reader<'_>,
-    aliases: &[Alias],
+    aliases: &Aliases,
     room: u32,
 ) -> Result<Ty, Refused>
     ensures { Reads (spec.ty aliases.now room reader.old) result reader.new }
@@ -196,7 +196,7 @@ pub fn ty(
 fn function(
     alloc: Global,
     reader: &mut Reader<'_>,
-    aliases: &[Alias],
+    aliases: &Aliases,
     room: u32,
 ) -> Result<Ty, Refused>
     requires { room < 2 ^ 32 - 1 }
@@ -222,7 +222,7 @@ fn function(
 fn ty_list(
     alloc: Global,
     reader: &mut Reader<'_>,
-    aliases: &[Alias],
+    aliases: &Aliases,
     room: u32,
 ) -> Result<TyList, Refused>
     ensures { Reads (list RightParen (spec.ty aliases.now room) reader.old) result reader.new }
@@ -240,12 +240,12 @@ fn ty_list(
 fn ty_items(
     alloc: Global,
     reader: &mut Reader<'_>,
-    aliases: &[Alias],
+    aliases: &Aliases,
     room: u32,
 ) -> Result<TyList, Refused>
     ensures { Reads (items (spec.ty aliases.now room) reader.old) result reader.new }
 {
-    let mut found = Items::new(alloc);
+    let mut found = room_for_one(alloc)?;
     for _turn in 0..reader.left() {
         found.push(ty(alloc, reader, aliases, room)?)?;
         if !reader.eat(TokenKind::Comma) {
@@ -261,7 +261,8 @@ pub fn whole_ty(alloc: Global, bytes: &[u8]) -> Result<Ty, Refused>
     ensures { Gives result (spec.type_of bytes.now) }
 {
     let mut reader = Reader::new(bytes);
-    let found = ty(alloc, &mut reader, &[], MAX_OPEN)?;
+    let aliases = Aliases::new(alloc);
+    let found = ty(alloc, &mut reader, &aliases, MAX_OPEN)?;
     if !reader.sees(TokenKind::End) {
         return Err(reader.refuse());
     }

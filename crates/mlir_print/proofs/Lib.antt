@@ -1,3 +1,14 @@
 pub mod Printing
 pub mod Lists
+pub mod Parts
+pub mod Runs
+pub mod Places
+pub mod Closing
+pub mod RowTexts
+pub mod Lookups
+pub mod Blocks
+pub mod Printable
+pub mod Counting
 pub mod Examples
+pub mod ModuleExamples
+pub mod Sample

@@ -6,10 +6,10 @@ use Rattle.mlir_tree.specs.Tree.{Ty, tys, Attr, attrs, entries}
 use Rattle.mlir_print.specs.Text.{byte_text, name_text, ty_text, tys_text, more_tys_text, more_symbols_text, symbols_text, attr_text, attrs_text, more_attrs_text, entry_by, is_unit, entries_text, more_entries_text}
 
 -- a function of the rest of a list that begins with this item
-rest_at : {X : Type 0} (F : List X → List ℕ) (xs : List X) (i : ℕ) (x : X) → i < length xs → x ≡ get_or xs i x → F (x ∷ drop (i + 1) xs) ≡ F (drop i xs)
+pub rest_at : {X : Type 0} (F : List X → List ℕ) (xs : List X) (i : ℕ) (x : X) → i < length xs → x ≡ get_or xs i x → F (x ∷ drop (i + 1) xs) ≡ F (drop i xs)
 rest_at F xs i x h is = sym (at_drop_more F xs i x h ∙ ap (λ e. F (e ∷ drop (i + 1) xs)) (sym is))
 
-whole_at : {X : Type 0} (F : List X → List ℕ) (xs : List X) (x : X) → 1 ≤ length xs → x ≡ get_or xs 0 x → F (x ∷ drop 1 xs) ≡ F xs
+pub whole_at : {X : Type 0} (F : List X → List ℕ) (xs : List X) (x : X) → 1 ≤ length xs → x ≡ get_or xs 0 x → F (x ∷ drop 1 xs) ≡ F xs
 whole_at F [] x some is = absurd (omega arith)
 whole_at F (y ∷ ys) x some is = ap (λ e. F (e ∷ ys)) is
 

@@ -1,3 +1,9 @@
 pub mod Text
+pub mod Numbering
+pub mod Starts
+pub mod ModuleText
+pub mod NumberMaps
+pub mod Printable
+pub mod Cursor
 pub mod Prints
 pub mod TextSink

@@ -14,6 +14,10 @@ use Rattle.mlir_tree.specs.Tree.{Ty, int, index, func, word, Tys, no_tys, ty_the
 abbrev pub hex_digit : ℕ → ℕ
 hex_digit n = if nat_lt n 10 then 48 + n else 55 + n
 
+-- a byte that is itself inside a string
+abbrev pub is_plain : ℕ → Bool
+is_plain b = not (b == 92) && (nat_le 32 b && (nat_le b 126 && not (b == 34)))
+
 -- a byte inside a string: a printable character is itself, a backslash two of them, and each other byte two hexadecimal digits
 abbrev pub byte_text : ℕ → List ℕ
 byte_text b =

@@ -182,7 +182,7 @@ fn put_entry<S: Sink>(sink: &mut S, ok: &mut bool, name: &[u8], attr: &Attr)
 
 #[cycle(put_attr)]
 #[tactic(auto, unfolding(crate::specs::Text::attr_text))]
-fn put_entries<S: Sink>(sink: &mut S, ok: &mut bool, all: &[(Text, Attr)])
+pub fn put_entries<S: Sink>(sink: &mut S, ok: &mut bool, all: &[(Text, Attr)])
     ensures { Prints ok.old ok.new (S.state sink.old) (S.state sink.new) (spec.entries_text (entries all.now)) }
 {
     if all.is_empty() {

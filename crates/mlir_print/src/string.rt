@@ -1,5 +1,5 @@
 // Strings between quotes, and names.
-ghost use Rattle.std.specs.Prelude.{◌≡◌, ◌<◌, IfOk};
+ghost use Rattle.std.specs.Prelude.{◌≡◌, ◌<◌, ◌≤◌, length, take, IfOk};
 ghost use Rattle.std.specs.List.{flat_map, list_all};
 ghost use Rattle.rw_outside.specs.Puts.{Puts};
 ghost use Rattle.mlir_print.specs.Prints.{Prints};
@@ -37,11 +37,47 @@ fn put_byte<S: Sink>(sink: &mut S, ok: &mut bool, b: u8)
     }
 }
 
+// Whether the byte is itself inside a string.
+fn is_plain(b: u8) -> bool
+    ensures { result ≡ spec.is_plain b }
+{
+    b != b'\\' && b' ' <= b && b <= b'~' && b != b'"'
+}
+
+// How many bytes at the front are themselves inside a string.
+fn plain_len(bytes: &[u8]) -> usize
+    ensures themselves { flat_map spec.byte_text (take result bytes.now) ≡ take result bytes.now }
+    ensures within { result ≤ length bytes.now }
+{
+    let mut len = 0;
+    while len < bytes.len() && is_plain(bytes[len]) {
+        len += 1;
+    }
+    len
+}
+
+// Puts the bytes at the front that are themselves, and the byte behind them. It gives how many these are.
+fn put_run<S: Sink>(sink: &mut S, ok: &mut bool, bytes: &[u8]) -> usize
+    requires { 0 < length bytes.now }
+    ensures text { Prints ok.old ok.new (S.state sink.old) (S.state sink.new) (flat_map spec.byte_text (take result bytes.now)) }
+    ensures some { 0 < result }
+    ensures within { result ≤ length bytes.now }
+{
+    let len = plain_len(bytes);
+    put(sink, ok, &bytes[..len]);
+    if len == bytes.len() {
+        return len;
+    }
+    put_byte(sink, ok, bytes[len]);
+    len + 1
+}
+
 fn put_bytes<S: Sink>(sink: &mut S, ok: &mut bool, bytes: &[u8])
     ensures { Prints ok.old ok.new (S.state sink.old) (S.state sink.new) (flat_map spec.byte_text bytes.now) }
 {
-    for b in bytes {
-        put_byte(sink, ok, *b);
+    let mut at = 0;
+    while at < bytes.len() {
+        at += put_run(sink, ok, &bytes[at..]);
     }
 }
 

@@ -78,7 +78,7 @@ fn put_more_tys<S: Sink>(sink: &mut S, ok: &mut bool, all: &[Ty])
 
 #[cycle(put_ty)]
 #[tactic(auto, unfolding(crate::specs::Text::ty_text))]
-fn put_results<S: Sink>(sink: &mut S, ok: &mut bool, all: &[Ty])
+pub fn put_results<S: Sink>(sink: &mut S, ok: &mut bool, all: &[Ty])
     ensures { Prints ok.old ok.new (S.state sink.old) (S.state sink.new) (spec.results_by (spec.stands_bare (tys all.now)) (spec.tys_text (tys all.now))) }
 {
     if stands_bare(all) {

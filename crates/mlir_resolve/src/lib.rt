@@ -1,0 +1,19 @@
+//! From the tree of a module to its rows.
+#![tactic(auto)]
+
+mod entries;
+mod head;
+mod module;
+mod named;
+mod operands;
+mod places;
+mod puts;
+mod scope;
+mod sight;
+#[cfg(test)]
+mod tests;
+mod visibility;
+mod walk;
+
+pub use module::resolve;
+pub use visibility::well_formed;
