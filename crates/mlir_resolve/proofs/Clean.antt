@@ -1,26 +1,24 @@
 -- What no fault of a tree says of its rows, and what its limits say of them.
-use Rattle.std.proofs.Common.{◌≡◌, ◌<◌, ◌≤◌, ◌+◌, ◌-◌, min, ℕ, zero, suc, Bool, true, false, ◌&&◌, ◌||◌, ◌⊎◌, inl, inr, List, [], ◌∷◌, ◌++◌, length, map, take, drop, get_or, Option, Some, None, refl, sym, ap, subst, ◌∙◌, arith, cond}
-use Rattle.std.specs.Prelude.{◌==◌, nat_lt, slice_get, IfSome, IsTrue, All, find, flat_map, filter_map, ⊤}
-use Rattle.std.specs.Option.{option_or, option_map, option_map_or}
-use Rattle.std.specs.List.{list_any, AllByRecursion}
+use Rattle.std.proofs.Common.{◌≡◌, ◌<◌, ◌≤◌, ◌+◌, min, ℕ, suc, Bool, true, false, List, [], ◌∷◌, ◌++◌, length, drop, get_or, Option, Some, None, refl, sym, ap, subst, ◌∙◌, arith, cond}
+use Rattle.std.specs.Prelude.{nat_lt, slice_get, find, flat_map}
+use Rattle.std.specs.Option.{option_map_or}
+use Rattle.std.specs.List.{AllByRecursion}
 use Rattle.std.proofs.lemmas.Bool.Decides.{nat_tests}
-use Rattle.std.proofs.lemmas.List.{length-append, length-take, length-drop, length-map}
+use Rattle.std.proofs.lemmas.List.{length-take, length-drop}
 use Rattle.mlir_tree.specs.declared.row.Home.{Home}
-use Rattle.mlir_tree.specs.declared.row.Row.{Row}
 use Rattle.mlir_tree.specs.declared.value.Val.{Val}
 use Rattle.mlir_tree.specs.declared.value.Val.TheVariants.{Res, Arg}
 use Rattle.mlir_tree.specs.Tree.{Ty}
 use Rattle.mlir_parse.specs.declared.fault.ModFault.{ModFault}
 use Rattle.mlir_parse.specs.declared.syn.SynArg.{SynArg}
-use Rattle.mlir_parse.specs.declared.syn.SynUse.{SynUse}
 use Rattle.mlir_parse.specs.declared.syn.SynResult.{SynResult}
-use Rattle.mlir_parse.specs.SynTree.{Head, Operation, operation, Regions, no_regions, region_then, Operations, no_operations, operation_then}
-use Rattle.mlir_parse.specs.Limits.{operation_count, region_operation_count, operations_count, region_count, syn_names, IsHeadKept, IsOperationKept, AreRegionsKept, AreOperationsKept}
+use Rattle.mlir_parse.specs.SynTree.{Operation, operation, Regions, no_regions, region_then, Operations, no_operations, operation_then}
+use Rattle.mlir_parse.specs.Limits.{operation_count, operations_count, region_count, syn_names, IsOperationKept, AreRegionsKept, AreOperationsKept}
 use Rattle.mlir_tree.specs.Range.{AreRising}
 use Rattle.mlir_resolve.specs.Laid.{Laid, arguments_of, region, laid_operation, laid_regions, laid_operations}
 use Rattle.mlir_resolve.specs.Sight.{Definition, result_definitions, argument_definitions, region_definitions, row_definitions}
-use Rattle.mlir_resolve.specs.Resolving.{Names, or_then, names_at, head_fault, arguments_fault, results_fault, twice_in, operation_fault, regions_fault, operations_fault}
-use Rattle.mlir_resolve.proofs.Spans.{AllAt, all_behind, operation_length, regions_length, operations_length, IsNumber}
+use Rattle.mlir_resolve.specs.Resolving.{or_then, names_at, head_fault, arguments_fault, results_fault, twice_in, operation_fault, regions_fault, operations_fault}
+use Rattle.mlir_resolve.proofs.Spans.{AllAt, all_behind, operation_length, operations_length, IsNumber}
 use Rattle.mlir_resolve.proofs.Nested.{blank}
 
 pub none_of : (a b : Option ModFault) → or_then a b ≡ None → (a ≡ None) × (b ≡ None)
@@ -34,6 +32,7 @@ IsClean ls k l = head_fault (names_at ls k) l.head ≡ None
 
 mutual
   unfolding laid_operation operation_fault
+
   pub operation_clean : (ls : List Laid) (n : ℕ) (home : Option Home) (o : Operation) → operation_fault ls n home o ≡ None → AllAt (IsClean ls) n (laid_operation n home o)
   operation_clean ls n home (operation h rs) none =
       let a = none_of (head_fault (names_at ls n) h) (or_then (regions_fault ls n 0 (suc n) rs) (results_fault (twice_in ls home) n h)) none in
@@ -78,16 +77,19 @@ arguments_kept (region_then args os rs) kept = (kept.0, arguments_kept rs kept.2
 
 mutual
   unfolding laid_operation
+
   pub operation_kept : (n : ℕ) (home : Option Home) (o : Operation) → IsOperationKept o → AllAt IsRowKept n (laid_operation n home o)
-  operation_kept n home (operation h rs) kept =
-      (record {
-        operands = kept.0.operands;
-        results = kept.0.results;
-        regions = omega (arith, kept.0.regions, regions_are rs);
-        arguments = arguments_kept rs kept.1;
-        props = kept.0.props;
-        attrs = kept.0.attrs;
-      }, regions_kept n 0 (suc n) rs kept.1)
+  operation_kept n home (operation h rs) kept = (
+    record {
+      operands = kept.0.operands;
+      results = kept.0.results;
+      regions = omega (arith, kept.0.regions, regions_are rs);
+      arguments = arguments_kept rs kept.1;
+      props = kept.0.props;
+      attrs = kept.0.attrs;
+    },
+    regions_kept n 0 (suc n) rs kept.1,
+  )
 
   regions_kept : (d g n : ℕ) (rs : Regions) → AreRegionsKept rs → AllAt IsRowKept n (laid_regions d g n rs)
   regions_kept d g n no_regions kept = tt
@@ -113,9 +115,10 @@ IsMadeAt k l d = IsMade k l d.first (length d.types)
 
 results_made : (k : ℕ) (l : Laid) (o : ℕ) (rs : List SynResult) (types : List Ty) → ((i : ℕ) → i < length types → o + i < length l.head.result_types) → AllByRecursion (IsMadeAt k l) (result_definitions k o rs types)
 results_made k l o [] types fits = tt
-results_made k l o (r ∷ rs) types fits =
-    ((refl, λ i p. fits i (omega (arith, p, length-take r.count types, min-right r.count (length types)))),
-    results_made k l (o + r.count) rs (drop r.count types) (λ i p. let q = fits (r.count + i) (omega (arith, p, length-drop r.count types)) in omega (arith, q)))
+results_made k l o (r ∷ rs) types fits = (
+  (refl, λ i p. fits i (omega (arith, p, length-take r.count types, min-right r.count (length types)))),
+  results_made k l (o + r.count) rs (drop r.count types) (λ i p. let q = fits (r.count + i) (omega (arith, p, length-drop r.count types)) in omega (arith, q)),
+)
   where
     min-right : (a b : ℕ) → min a b ≤ b
     min-right a b = grind (arith, nat_tests)

@@ -1,5 +1,5 @@
 -- Which rows stand where, and in which scopes, doesn't depend on operands.
-use Rattle.std.proofs.Common.{◌≡◌, ℕ, Bool, true, false, ◌&&◌, ◌||◌, cond, not, List, [], ◌∷◌, map, reverse, Option, Some, None, refl, sym, ap, ◌∙◌}
+use Rattle.std.proofs.Common.{◌≡◌, ℕ, true, false, ◌&&◌, ◌||◌, cond, not, List, [], ◌∷◌, reverse, Some, refl, sym, ap, ◌∙◌}
 use Rattle.std.specs.Prelude.{◌==◌}
 use Rattle.std.specs.Option.{option_map_or, option_and_then}
 use Rattle.std.specs.List.{list_any}
@@ -7,7 +7,7 @@ use Rattle.mlir_tree.specs.declared.row.Home.{Home}
 use Rattle.mlir_tree.specs.declared.row.Row.{Row}
 use Rattle.mlir_tree.specs.declared.value.Val.{Val}
 use Rattle.mlir_tree.specs.declared.value.Val.TheVariants.{Res, Arg}
-use Rattle.mlir_tree.specs.Module.{row_of, has_row, is_earlier, home_of, homes_around, enclosing, is_inside, is_contained, is_in_scope}
+use Rattle.mlir_tree.specs.Module.{row_of, has_row, is_earlier, home_of, homes_around, enclosing, is_in_scope}
 use Rattle.mlir_tree.proofs.Visibility.{map-reverse}
 use Rattle.mlir_resolve.specs.Laid.{Laid, row_with}
 use Rattle.mlir_resolve.specs.Sight.{value_at}

@@ -1,8 +1,8 @@
 -- The rows of a tree without a fault are well-formed.
-use Rattle.std.proofs.Common.{◌≡◌, ◌<◌, ◌≤◌, ◌+◌, ◌-◌, ◌^◌, ℕ, zero, suc, Bool, true, false, not, ◌&&◌, ◌||◌, ◌⊎◌, inl, inr, List, [], ◌∷◌, ◌++◌, length, map, get_or, codes, Option, Some, None, Result, Ok, Err, refl, sym, ap, subst, ◌∙◌, arith, cond}
-use Rattle.std.specs.Prelude.{IfOk, ◌==◌, nat_lt, slice_get, IfSome, IsSome, IsTrue, All, Contains, find, flat_map, filter_map, ⊤}
+use Rattle.std.proofs.Common.{◌≡◌, ◌<◌, ◌≤◌, ◌+◌, ◌^◌, ℕ, zero, suc, Bool, true, false, ◌&&◌, ◌||◌, List, [], ◌∷◌, length, map, get_or, codes, Option, Some, None, Result, Ok, Err, refl, sym, ap, subst, ◌∙◌, arith, cond}
+use Rattle.std.specs.Prelude.{IfOk, ◌==◌, nat_lt, slice_get, IsSome, All, Contains, find, flat_map, filter_map}
 use Rattle.std.specs.Option.{option_or, option_map, option_map_or}
-use Rattle.std.specs.List.{list_any, AllByRecursion, cons_option}
+use Rattle.std.specs.List.{AllByRecursion, cons_option}
 use Rattle.std.specs.Str.{bytes_eq}
 use Rattle.std.proofs.lemmas.Bool.Decides.{nat_tests}
 use Rattle.std.proofs.lemmas.Slice.Eq.{bytes_eq-Decides}
@@ -14,10 +14,10 @@ use Rattle.mlir_tree.specs.declared.row.Row.{Row}
 use Rattle.mlir_tree.specs.declared.rows.Rows.{Rows}
 use Rattle.mlir_tree.specs.declared.value.Val.{Val}
 use Rattle.mlir_tree.specs.declared.value.Val.TheVariants.{Res, Arg}
-use Rattle.mlir_tree.specs.Tree.{Ty, Attr}
+use Rattle.mlir_tree.specs.Tree.{Ty}
 use Rattle.mlir_tree.specs.Range.{AreRising}
 use Rattle.mlir_tree.specs.Module.{row_of, has_argument, is_value, is_in_scope, is_visible, IsVisible, enclosing}
-use Rattle.mlir_tree.specs.WellFormed.{IsModuleRow, BeginsWithModule, AreNumbered, HasVisibleOperands, names, HasDictionaries, HasSizes, IsWellFormed}
+use Rattle.mlir_tree.specs.WellFormed.{BeginsWithModule, HasVisibleOperands, names, HasDictionaries, HasSizes, IsWellFormed}
 use Rattle.mlir_tree.specs.declared.refusal.Refusal.{Refusal}
 use Rattle.mlir_tree.specs.declared.refusal.Refusal.TheVariants as refusal
 use Rattle.mlir_parse.specs.Input.{Gives}
@@ -27,14 +27,13 @@ use Rattle.mlir_parse.specs.declared.syn.Syn.{Syn}
 use Rattle.mlir_parse.specs.declared.syn.SynArg.{SynArg}
 use Rattle.mlir_parse.specs.declared.syn.SynEntry.{SynEntry}
 use Rattle.mlir_parse.specs.declared.syn.SynUse.{SynUse}
-use Rattle.mlir_parse.specs.SynTree.{Head, Operation, operation, Regions, no_regions, region_then, Operations, no_operations, operation_then, operations}
+use Rattle.mlir_parse.specs.SynTree.{Head, Operation, operation, Regions, no_regions, region_then, operations}
 use Rattle.mlir_parse.specs.Limits.{syn_names, IsOperationKept, AreOperationsKept, KeepsLimits}
-use Rattle.mlir_resolve.specs.Laid.{Laid, arguments_of, has_no_values, region, row_with, bare_rows, entry_pair, argument_types, laid_operation, laid_regions, module_of, is_module, is_module_shape, implied_head, implied_module}
+use Rattle.mlir_resolve.specs.Laid.{Laid, arguments_of, has_no_values, row_with, bare_rows, entry_pair, argument_types, laid_operation, laid_regions, module_of, is_module, is_module_shape, implied_module}
 use Rattle.mlir_resolve.specs.Sight.{Definition, value_at, definitions, is_of_region, is_defined, is_in_sight, first_in_sight, meaning_at, row_definitions}
-use Rattle.mlir_resolve.specs.Resolving.{Names, or_then, known_use_fault, use_fault, uses_fault, count_fault, types_fault, has_entry, lesser, least_shared, entries_fault, head_fault, names_at, operation_fault, used_value, resolved_row, resolved_rows, rows_or, resolved_module, resolved}
-use Rattle.mlir_resolve.proofs.Searching.{order}
-use Rattle.mlir_resolve.proofs.Spans.{AllAt, all_weaker, IsNumber, IsBetween, operation_numbers, inner_homes}
-use Rattle.mlir_resolve.proofs.RowFacts.{fact_of, homes_before}
+use Rattle.mlir_resolve.specs.Resolving.{Names, or_then, known_use_fault, use_fault, uses_fault, count_fault, types_fault, has_entry, lesser, least_shared, entries_fault, head_fault, names_at, operation_fault, used_value, resolved_rows, rows_or, resolved}
+use Rattle.mlir_resolve.proofs.Spans.{AllAt, IsBetween, operation_numbers, inner_homes}
+use Rattle.mlir_resolve.proofs.RowFacts.{fact_of}
 use Rattle.mlir_resolve.proofs.Nested as nested
 use Rattle.mlir_resolve.proofs.Nested.{rows_by, blank}
 use Rattle.mlir_resolve.proofs.SameScopes.{same_scope}
@@ -75,6 +74,7 @@ sight_is rows P ds (h ∷ hs) name u d all is = by_find (find (is_in_sight rows 
     last true true c e = e
     last true false c e = absurd (cc)
     last false b c e = absurd (cc)
+
     by_find : (x : Option Definition) → find (is_in_sight rows h name u) ds ≡ x → option_or x (first_in_sight rows ds hs name u) ≡ Some d → (first_in_sight rows ds hs name u ≡ Some d → P d × (is_in_scope rows d.first u ≡ true))
         → P d × (is_in_scope rows d.first u ≡ true)
     by_find None e h' rest = rest h'
@@ -94,15 +94,18 @@ module _ (f : Laid → List Val) (o : Operation) where
     where
       all : AllByRecursion (IsMadeIn 0 (laid_operation 0 None o)) (flat_map row_definitions (laid_operation 0 None o))
       all = all_made 0 (laid_operation 0 None o) (operation_numbers 0 None o)
+
       index_fits : (d : Definition) → known_use_fault x (Some d) (is_defined (laid_operation 0 None o) x.name) ≡ None → x.index < length d.types
       index_fits d e = by_test (nat_lt x.index (length d.types)) refl e
         where
           by_test : (b : Bool) → nat_lt x.index (length d.types) ≡ b → cond {A = Option ModFault} b None (Some (record { kind = faults.ResultIndex; at = x.at })) ≡ None → x.index < length d.types
           by_test true e h = grind (arith, nat_tests, e)
           by_test false e h = absurd (cc)
+
       never : (b : Bool) → known_use_fault x None b ≡ None → ⊥
       never true e = cc
       never false e = cc
+
       by_meaning : (m : Option Definition) → meaning_at (laid_operation 0 None o) u x.name ≡ m → known_use_fault x m (is_defined (laid_operation 0 None o) x.name) ≡ None → option_map (λ (d : Definition). value_at d.first x.index) m ≡ Some v
           → IsVisible (rows_by f (laid_operation 0 None o)) v u
       by_meaning None e h w = absurd (never (is_defined (laid_operation 0 None o) x.name) h)
@@ -267,15 +270,17 @@ have_homes f n (l ∷ xs) all = (subst (λ (o : Option Home). IsSome o) (sym all
 begins : (f : Laid → List Val) (o : Operation) → IsModuleTree o → ((l : Laid) → l.head.operands ≡ [] → f l ≡ []) → BeginsWithModule (rows_by f (laid_operation 0 None o))
 unfolding laid_operation
 begins f (operation h rs) is none =
-    let l : Laid = record { id = 0; home = None; head = h; arguments = arguments_of rs } in
-    (record {
-      number = refl;
-      no_home = refl;
-      name = is.name;
-      one_region = length-map (arguments_of rs) argument_types ∙ is.one_region;
-      no_operands = none l is.operands;
-      no_results = is.results;
-    }, All-from_recursion (λ (r : Row). IsSome r.home) (rows_by f (laid_regions 0 0 1 rs)) (have_homes f 1 (laid_regions 0 0 1 rs) (inner_homes 0 rs)))
+    let l : Laid = record { id = 0; home = None; head = h; arguments = arguments_of rs } in (
+      record {
+        number = refl;
+        no_home = refl;
+        name = is.name;
+        one_region = length-map (arguments_of rs) argument_types ∙ is.one_region;
+        no_operands = none l is.operands;
+        no_results = is.results;
+      },
+      All-from_recursion (λ (r : Row). IsSome r.home) (rows_by f (laid_regions 0 0 1 rs)) (have_homes f 1 (laid_regions 0 0 1 rs) (inner_homes 0 rs)),
+    )
 
 -- a fact of each row, from one of each operation at its place
 each_row : (f : Laid → List Val) (P : Row → Type 0) (ls : List Laid) → ((k : ℕ) → k < length ls → P (row_with (f (get_or ls k blank)) (get_or ls k blank))) → All P (rows_by f ls)
@@ -314,6 +319,7 @@ module _ (o : Operation) where
           let a = none_of (uses_fault at h.operands) (or_then (count_fault h) (or_then (types_fault at h.operands h.operand_types) (entries_fault h))) none in
           let b = none_of (count_fault h) (or_then (types_fault at h.operands h.operand_types) (entries_fault h)) a.1 in
           (none_of (types_fault at h.operands h.operand_types) (entries_fault h) b.1).1
+
       visible : (k : ℕ) → k < length (laid_operation 0 None o) → IsClean (laid_operation 0 None o) k (get_or (laid_operation 0 None o) k blank)
           → HasVisibleOperands (rows_by operands_of (laid_operation 0 None o)) (row_with (operands_of (get_or (laid_operation 0 None o) k blank)) (get_or (laid_operation 0 None o) k blank))
       visible k l clean =

@@ -219,7 +219,8 @@ fn uses_what_is_visible(alloc: Global, text: &[u8]) -> bool {
 
 #[test]
 fn operands_that_are_visible(rt: HostRuntime) {
-    let text = b"%a = \"t.a\"() ({\n^b(%x: i32):\n\"t.b\"(%x) : (i32) -> ()\n}) : () -> i32\n\"t.c\"(%a) : (i32) -> ()";
+    let text =
+        b"%a = \"t.a\"() ({\n^b(%x: i32):\n\"t.b\"(%x) : (i32) -> ()\n}) : () -> i32\n\"t.c\"(%a) : (i32) -> ()";
     assert!(rt; uses_what_is_visible(rt.alloc(), text));
 }
 

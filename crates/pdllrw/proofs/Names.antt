@@ -1,5 +1,5 @@
 -- How many operations of a file have names.
-use Rattle.std.proofs.Common.{◌≡◌, ℕ, ◌+◌, ◌≤◌, List, [], ◌∷◌, ◌++◌, Option, Some, None, length, refl, sym, ap, ◌∙◌, append_assoc, arith}
+use Rattle.std.proofs.Common.{◌≡◌, ℕ, ◌+◌, ◌≤◌, List, [], ◌∷◌, ◌++◌, Option, Some, None, length, refl, sym, ap, append_assoc, arith}
 use Rattle.std.specs.Prelude.{Bool, true, false, IsTrue, Vec}
 use Rattle.std.specs.declared.alloc.Global.{Global}
 use Rattle.std.proofs.lemmas.List.{length-map}
@@ -7,7 +7,7 @@ use Rattle.mlir_parse.specs.declared.syn.Syn.{Syn}
 use Rattle.mlir_parse.specs.declared.syn.SynRegion.{SynRegion}
 use Rattle.mlir_parse.specs.SynTree.{Head, Operation, operation, operations}
 use Rattle.mlir_parse.specs.SynView.{region_tree}
-use Rattle.mlir_parse.specs.Limits.{operation_count, operations_count, KeepsLimits}
+use Rattle.mlir_parse.specs.Limits.{operations_count, KeepsLimits}
 use Rattle.pdllrw.specs.Modules.{has_no_regions, plain_name, name_then, all_names, built, texts}
 
 -- names behind those that were found

@@ -4,7 +4,7 @@ use Rattle.std.specs.List.{list_all}
 use Rattle.std.specs.declared.alloc.Global.{Global}
 use Rattle.text_scan.specs.Bytes.{is_name_byte}
 use Rattle.mlir_parse.specs.declared.syn.Syn.{Syn}
-use Rattle.mlir_parse.specs.SynTree.{Operation, operation, Regions, no_regions, region_then}
+use Rattle.mlir_parse.specs.SynTree.{Operation, operation, no_regions, region_then}
 
 -- a letter, a digit, an underscore or a dot
 abbrev pub is_plain_byte : ℕ → Bool
