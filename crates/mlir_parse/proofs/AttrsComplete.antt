@@ -11,7 +11,7 @@ use Rattle.mlir_tree.specs.Range.{IsInRange}
 use Rattle.mlir_parse.specs.declared.fault.ModKind.TheVariants as faults
 use Rattle.mlir_parse.specs.declared.aliases.Alias.{Alias}
 use Rattle.mlir_parse.specs.Place.{Place, left, kind, sees, start, spelling, next, start_of}
-use Rattle.mlir_parse.specs.Input.{Parser, lift, fail_at, ◌<$>◌, separated, list}
+use Rattle.mlir_parse.specs.Input.{Parser, lift, after, fail_at, ◌<$>◌, separated, list}
 use Rattle.mlir_parse.specs.Aliases.{has_point}
 use Rattle.mlir_parse.specs.Types.{is_kept_word, is_other_word, kept as kept_text, leaf, word_type, max_open}
 use Rattle.mlir_parse.specs.Numbers.{signed, is_hex, token_value, is_wide, is_integral}
@@ -152,12 +152,16 @@ module _ (aliases : List Alias) where
       or_ty u (Some t) = t
   number_typed_read room float (Some u) t s r within (m, mark, is) (inr (none, type)) = absurd (cc)
 
+  fitting_read : (room at : ℕ) (float : Bool) (text : List ℕ) (s r : Place) (p : ℕ × Ty) → read.typed_number aliases room float s ≡ Ok (p, r) → read.fitting_type aliases room at float text s ≡ Ok (p, r)
+  unfolding read.fitting_type
+  fitting_read room at float text s r p h = ap (read.or_number_fault (read.is_decimal float text) at (after k.Colon s)) h
+
   number_read : (room at : ℕ) (neg float : Bool) (text : List ℕ) (t : Ty) (x : Attr) (s r : Place) → (h : IsNumber aliases room neg float text t s r) → ((ty_at : ℕ) → number_of at ty_at neg float text t ≡ Ok x) → read.number aliases room at neg h.digits ≡ Ok (x, r)
   unfolding read.number
   number_read room at neg float text t x s r h value =
       let j = if float then k.Float else k.Integer in
       let typed = number_typed_read room float h.type_is t h.behind r (spelled_within j text h.digits h.behind h.spelled) h.typed h.type in
-      rw (kind_read float text h.digits h.behind h.spelled, spelled_text j text h.digits h.behind h.spelled, spelled_next j text h.digits h.behind h.spelled, typed.1, value typed.0) refl
+      rw (kind_read float text h.digits h.behind h.spelled, spelled_text j text h.digits h.behind h.spelled, spelled_next j text h.digits h.behind h.spelled, fitting_read room at float text h.behind r (typed.0, t) typed.1, value typed.0) refl
 
   -- ---- by which rule an attribute is read
 

@@ -14,7 +14,7 @@ use Rattle.mlir_parse.specs.declared.aliases.Alias.{Alias}
 use Rattle.mlir_parse.specs.declared.aliases.Meaning.{Meaning}
 use Rattle.mlir_parse.specs.declared.aliases.Meaning.TheVariants as meanings
 use Rattle.mlir_parse.specs.Place.{Place, fault, left, kind, sees, start, spelling, next, start_of}
-use Rattle.mlir_parse.specs.Input.{Parser, after, eat, expect, refuse, fail_at, pure, ◌>>=◌, ◌>>◌, ◌<$>◌, take_token, separated, items, list}
+use Rattle.mlir_parse.specs.Input.{Outcome, Parser, after, eat, expect, refuse, fail_at, pure, ◌>>=◌, ◌>>◌, ◌<$>◌, take_token, separated, items, list}
 use Rattle.mlir_parse.specs.Aliases.{find, attr_meant, has_point}
 use Rattle.mlir_parse.specs.Types.{is_kept_word, kept as kept_text, word_type, bang_type, ty, max_open}
 use Rattle.mlir_parse.specs.Numbers.{signed, if_short, is_hex, token_value, is_wide, is_integral}
@@ -109,6 +109,15 @@ module _ (aliases : List Alias) where
   unfolding read.typed_number
   number_typed_sound room float s r p within h = number_typed_by room float s r p (sees k.Colon s) refl within h
 
+  -- it is the type that is written
+  found_type : (d : Bool) (at : ℕ) (m r : Place) (o : Outcome (ℕ × Ty)) (p : ℕ × Ty) → read.or_number_fault d at m o ≡ Ok (p, r) → o ≡ Ok (p, r)
+  found_type d at m r (Ok q) p h = h
+  found_type d at m r (Err f) p h = absurd (cc)
+
+  fitting_sound : (room at : ℕ) (float : Bool) (text : List ℕ) (s r : Place) (p : ℕ × Ty) → read.fitting_type aliases room at float text s ≡ Ok (p, r) → read.typed_number aliases room float s ≡ Ok (p, r)
+  unfolding read.fitting_type
+  fitting_sound room at float text s r p h = found_type (read.is_decimal float text) at (after k.Colon s) r (read.typed_number aliases room float s) p h
+
   number_attr : (room : ℕ) (neg float : Bool) (text : List ℕ) (t : Ty) (s r : Place) (x : Attr) → IsNumber aliases room neg float text t s r → Numbered neg float text t x → IsPlainAttr aliases room s x r
   number_attr room neg float text t s r x h (inl (exact, wide, n, value, same)) =
       subst (λ x. IsPlainAttr aliases room s x r) same (inl (neg, text, subst (λ f. IsNumber aliases room neg f text t s r) exact h, wide, value))
@@ -122,8 +131,8 @@ module _ (aliases : List Alias) where
       let one = bind_ok (number_kind m) _ x r h in
       let float = float_sound m one.1 one.0 (kind m) refl one.2 in
       let token = taken (if one.0 then k.Float else k.Integer) one.1 (subst IsWithin float.0 within) (subst (λ u. sees (if one.0 then k.Float else k.Integer) u ≡ true) float.0 float.1) in
-      let two = bind_ok (read.typed_number aliases room one.0 (next one.1)) _ x r one.3 in
-      let typed = number_typed_sound room one.0 (next one.1) two.1 two.0 token.1 two.2 in
+      let two = bind_ok (read.fitting_type aliases room at one.0 (spelling one.1) (next one.1)) _ x r one.3 in
+      let typed = number_typed_sound room one.0 (next one.1) two.1 two.0 token.1 (fitting_sound room at one.0 (spelling one.1) (next one.1) two.1 two.0 two.2) in
       let last = lifted (number_of at two.0.0 neg one.0 (spelling one.1) two.0.1) two.1 r x two.3 in
       let numbered = number_of_sound at two.0.0 neg one.0 (spelling one.1) two.0.1 x last.0 in
       let written : IsNumber aliases room neg one.0 (spelling one.1) two.0.1 s two.1 = record {

@@ -1,6 +1,6 @@
 -- The faults of attributes.
 use Rattle.std.proofs.Common.{◌≡◌, ℕ, zero, suc, ◌≤◌, Bool, true, false, cond, List, [], length, refl, Result, Ok, Err, Option, Some, None}
-use Rattle.std.specs.Prelude.{◌||◌, codes}
+use Rattle.std.specs.Prelude.{◌&&◌, ◌||◌, nat_lt, codes}
 use Rattle.std.specs.Str.{bytes_eq}
 use Rattle.mlir_lexer.specs.declared.token.TokenKind.{TokenKind}
 use Rattle.mlir_lexer.specs.declared.token.TokenKind.TheVariants as k
@@ -17,6 +17,7 @@ use Rattle.mlir_parse.specs.Numbers.{is_wide, is_integral, is_hex, if_short, tok
 use Rattle.mlir_parse.specs.Dictionary.{has_name, put_entry}
 use Rattle.mlir_parse.specs.Aliases.{find, attr_meant, has_point}
 use Rattle.mlir_parse.specs.Types.{is_kept_word, kept, word_type, bang_type, ty}
+use Rattle.mlir_parse.specs.Complete.{is_complete_type}
 use Rattle.mlir_parse.specs.Attributes as read
 use Rattle.mlir_parse.proofs.FaultSteps.{Reading, IsIn, IsFault, Judged, Good, Told, start_within, next_in, after_in, refused, failed, failed_at, lifted, expected, both, mapped, either, separated_judged, list_judged}
 use Rattle.mlir_parse.proofs.FaultTypes.{use_judged, kept_judged, word_judged, bang_judged, ty_judged}
@@ -130,6 +131,21 @@ module _ (j : Reading) (attr_in : (n : ModKind) → is_attr_fault n ≡ true →
         let inside = start_within j (after k.Colon s) there in
         placed_by (sees k.Colon s) _ _ (after k.Colon s) (placed (start (after k.Colon s)) (ty aliases room (after k.Colon s)) inside (ty_judged j aliases room (after k.Colon s) there)) (there, inside)
 
+    -- the fault of a number is at its first token, which is within the text
+    fault_by : (d b : Bool) (at : ℕ) (e : ModFault) → at ≤ length j.base.bytes → IsFault j e → IsFault j (cond d (cond b (fault faults.IntRange at) e) e)
+    fault_by true true at e inside h = record { kind = attr_in faults.IntRange refl; within = inside }
+    fault_by true false at e inside h = h
+    fault_by false b at e inside h = h
+
+    fitted : (d : Bool) (at : ℕ) (m : Place) (o : Outcome (ℕ × Ty)) → at ≤ length j.base.bytes → Placed o → Placed (read.or_number_fault d at m o)
+    unfolding read.number_fault
+    fitted d at m (Ok p) inside h = h
+    fitted d at m (Err e) inside h = fault_by d ((read.is_inner e.kind && nat_lt (start m) e.at) && is_complete_type m) at e inside h
+
+    number_fitted : (room at : ℕ) (float : Bool) (text : List ℕ) (s : Place) → at ≤ length j.base.bytes → IsIn j s → Placed (read.fitting_type aliases room at float text s)
+    unfolding read.fitting_type
+    number_fitted room at float text s inside h = fitted (read.is_decimal float text) at (after k.Colon s) (read.typed_number aliases room float s) inside (number_typed room float s h)
+
     number_ends : (at : ℕ) (neg float : Bool) (text : List ℕ) (o : Outcome (ℕ × Ty)) → at ≤ length j.base.bytes → Placed o
         → Judged j (and_then o (λ t u. lift_to u (read.number_of at t.0 neg float text t.1)))
     number_ends at neg float text (Ok p) inside h = lifted j (read.number_of at p.0.0 neg float text p.0.1) p.1 h.0 (number_told at p.0.0 neg float text p.0.1 inside h.1)
@@ -138,7 +154,7 @@ module _ (j : Reading) (attr_in : (n : ModKind) → is_attr_fault n ≡ true →
     number_judged : (room at : ℕ) (neg : Bool) → at ≤ length j.base.bytes → Good j (read.number aliases room at neg)
     unfolding read.number
     number_judged room at neg inside s h =
-        both j (read.number_kind s) _ (float_judged (kind s) s h) (λ float u i. number_ends at neg float (spelling u) (read.typed_number aliases room float (next u)) inside (number_typed room float (next u) (next_in j u i)))
+        both j (read.number_kind s) _ (float_judged (kind s) s h) (λ float u i. number_ends at neg float (spelling u) (read.fitting_type aliases room at float (spelling u) (next u)) inside (number_fitted room at float (spelling u) (next u) inside (next_in j u i)))
 
     -- ---- strings, words and kept attributes
 

@@ -1,5 +1,5 @@
 -- Attributes, read from the front of a text.
-use Rattle.std.specs.Prelude.{ℕ, zero, suc, Bool, true, false, if◌then◌else◌, ◌||◌, ◌==◌, List, [], ◌∷◌, drop, slice_index, Option, Some, None, Result, Ok, Err, codes}
+use Rattle.std.specs.Prelude.{ℕ, zero, suc, Bool, true, false, if◌then◌else◌, ◌||◌, ◌==◌, ◌&&◌, not, nat_lt, List, [], ◌∷◌, drop, slice_index, Option, Some, None, Result, Ok, Err, codes}
 use Rattle.std.specs.Str.{bytes_eq}
 pub use Rattle.text_scan.specs.Strings.{string_value}
 use Rattle.mlir_lexer.specs.declared.token.TokenKind.{TokenKind}
@@ -8,13 +8,15 @@ use Rattle.mlir_tree.specs.declared.sign.Sign.TheVariants.{Signless}
 use Rattle.mlir_tree.specs.declared.number.Number.{Number}
 use Rattle.mlir_tree.specs.Tree.{Ty, int, word, Attr, unit, int_attr, num, str, sym, of_ty, array, dict, kept, attrs, entries as as_entries}
 use Rattle.mlir_parse.specs.declared.fault.ModFault.{ModFault}
+use Rattle.mlir_parse.specs.declared.fault.ModKind.{ModKind}
 use Rattle.mlir_parse.specs.declared.fault.ModKind.TheVariants as faults
 use Rattle.mlir_parse.specs.declared.aliases.Alias.{Alias}
-use Rattle.mlir_parse.specs.Place.{left, fault, start_of}
-use Rattle.mlir_parse.specs.Input.{Parser, ◌>>=◌, ◌>>◌, ◌<$>◌, pure, lift, see, fail_at, fail, refuse, peek, here, ahead, take_token, eat, expect, separated, list}
+use Rattle.mlir_parse.specs.Place.{Place, left, fault, start, start_of}
+use Rattle.mlir_parse.specs.Input.{Outcome, Parser, ◌>>=◌, ◌>>◌, ◌<$>◌, pure, lift, see, fail_at, fail, refuse, peek, here, ahead, take_token, after, eat, expect, separated, list}
 use Rattle.mlir_parse.specs.Aliases.{find, attr_meant, has_point}
 use Rattle.mlir_parse.specs.Types.{is_kept_word, kept as kept_text, use_alias, word_type, bang_type, ty, max_open, whole}
 use Rattle.mlir_parse.specs.Numbers.{if_short, is_hex, token_value, signed, value_at, is_wide, is_integral}
+use Rattle.mlir_parse.specs.Complete.{is_complete_type}
 use Rattle.mlir_parse.specs.Dictionary.{has_name, put_entry}
 
 -- ---- numbers
@@ -53,6 +55,25 @@ float_by _ = refuse
 -- whether the next token is a float and not an integer
 abbrev pub number_kind : Parser Bool
 number_kind = peek >>= float_by
+
+-- the faults that a type may have whose tokens are all there
+abbrev pub is_inner : ModKind → Bool
+is_inner faults.WideInt = true
+is_inner faults.AliasUnknown = true
+is_inner faults.TooMany = true
+is_inner _ = false
+
+-- The fault of a decimal integer that begins at `at`, where the type at this place has this fault: one that stands inside the
+-- type comes behind the integer's own, which is there as soon as the type is neither an integer type nor `index`.
+unfoldable pub number_fault : ℕ → Place → ModFault → ModFault
+number_fault at s f = if (is_inner f.kind && nat_lt (start s) f.at) && is_complete_type s then fault faults.IntRange at else f
+
+abbrev pub or_number_fault : {A : Type 0} → Bool → ℕ → Place → Outcome A → Outcome A
+or_number_fault decimal at s (Ok p) = Ok p
+or_number_fault decimal at s (Err f) = Err (if decimal then number_fault at s f else f)
+
+abbrev pub is_decimal : Bool → List ℕ → Bool
+is_decimal float text = not (float || is_hex text)
 
 -- ---- names
 
@@ -124,12 +145,16 @@ module _ (aliases : List Alias) where
     at ← here
     if more then ((λ t. (at, t)) <$> ty aliases room) else pure (at, number_type float)
 
+  -- The type of a number of this text, which begins at `at`.
+  unfoldable pub fitting_type : ℕ → ℕ → Bool → List ℕ → Parser (ℕ × Ty)
+  fitting_type room at float text = λ s. or_number_fault (is_decimal float text) at (after k.Colon s) (typed_number room float s)
+
   -- A number, behind its sign. The whole begins at `at`.
   unfoldable pub number : ℕ → ℕ → Bool → Parser Attr
   number room at neg = do
     float ← number_kind
     text ← take_token
-    t ← typed_number room float
+    t ← fitting_type room at float text
     lift (number_of at t.0 neg float text t.1)
 
   -- a string

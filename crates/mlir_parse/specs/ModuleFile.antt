@@ -1,10 +1,8 @@
 -- Alias definitions and module files, read from the front of a text.
-use Rattle.std.specs.Prelude.{ℕ, zero, suc, ◌-◌, Bool, true, false, ◌&&◌, ◌||◌, not, ◌==◌, max, if◌then◌else◌, List, [], ◌∷◌, ◌++◌, length, take, slice_index, Result, Ok, Err}
+use Rattle.std.specs.Prelude.{ℕ, zero, suc, Bool, true, false, ◌&&◌, ◌||◌, not, ◌==◌, max, if◌then◌else◌, List, [], ◌∷◌, ◌++◌, length, slice_index, Result, Ok, Err}
 use Rattle.std.specs.Option.{is_some}
 use Rattle.std.specs.Str.Lossy.{utf8_valid_len}
-use Rattle.mlir_lexer.specs.Body.{closer, effect_of}
-use Rattle.mlir_lexer.specs.declared.body.Effect.{Effect}
-use Rattle.mlir_lexer.specs.declared.body.Effect.TheVariants.{Opens, Closes, Fails, Passes}
+use Rattle.mlir_lexer.specs.Body.{effect_of}
 use Rattle.mlir_lexer.specs.declared.token.TokenKind.TheVariants as k
 use Rattle.mlir_print.specs.Text.{ty_text, attr_text}
 use Rattle.mlir_parse.specs.declared.fault.ModFault.{ModFault}
@@ -17,6 +15,7 @@ use Rattle.mlir_parse.specs.declared.syn.Syn.{Syn}
 use Rattle.mlir_parse.specs.Place.{Place, left, fault, sees, start_of}
 use Rattle.mlir_parse.specs.Input.{Outcome, Parser, ◌>>=◌, ◌>>◌, ◌<$>◌, pure, lift, refuse, see, here, take_token, expect}
 use Rattle.mlir_parse.specs.Aliases.{find, has_point}
+pub use Rattle.mlir_parse.specs.Brackets.{innermost, closers_by}
 use Rattle.mlir_parse.specs.Types.{ty, max_open}
 use Rattle.mlir_parse.specs.Attributes.{attr}
 use Rattle.mlir_parse.specs.Steps.{see_loc, location}
@@ -24,19 +23,6 @@ use Rattle.mlir_parse.specs.SynTree.{Operation}
 use Rattle.mlir_parse.specs.Operations.{an_operation_in}
 
 -- ---- how many brackets are open at once in a printed text
-
-abbrev pub innermost : List ℕ → ℕ
-innermost closers = slice_index closers (length closers - 1)
-
-abbrev pub outer : List ℕ → List ℕ
-outer closers = take (length closers - 1) closers
-
--- what closes each open bracket, the innermost last, behind a byte of this effect
-abbrev pub closers_by : Effect → ℕ → List ℕ → List ℕ
-closers_by Opens b closers = closers ++ closer b ∷ []
-closers_by Closes b closers = outer closers
-closers_by Fails b closers = closers
-closers_by Passes b closers = closers
 
 abbrev pub scan_to : Scan → List ℕ → ℕ → Scan
 scan_to s closers b = record { closers = closers; dash = b == 45; quoted = false; escaped = false; most = max s.most (length closers) }

@@ -1,22 +1,24 @@
 //! Attributes.
 
-ghost use Rattle.std.specs.Prelude.{◌≡◌, ◌<◌, ◌+◌, ◌-◌, ◌^◌, [], IfOk};
+ghost use Rattle.std.specs.Prelude.{◌≡◌, ◌<◌, ◌+◌, ◌-◌, ◌^◌, [], IfOk, Err};
 ghost use Rattle.mlir_tree.specs.Tree.{attrs, entries};
 ghost use Rattle.mlir_tree.specs.Range.{AreRising, entry_names};
-ghost use Rattle.mlir_lexer.specs.declared.token.TokenKind.TheVariants.{RightBracket, ColonColon};
+ghost use Rattle.mlir_lexer.specs.declared.token.TokenKind.TheVariants.{RightBracket, Colon, ColonColon};
 ghost use Rattle.mlir_parse.specs.Place.{left, kind};
-ghost use Rattle.mlir_parse.specs.Input.{Reads, Gives, list, items, separated};
+ghost use Rattle.mlir_parse.specs.Input.{Reads, Fails, Gives, after, list, items, separated};
 ghost use Rattle.mlir_parse.specs.Attributes as spec;
 
 use crate::aliases::{Aliases, Meaning, has_point};
+use crate::complete::pass_type;
 use crate::dictionary::{has_name, in_order, no_entries, put_entry};
-use crate::fault::ModKind;
-use crate::numbers::number_of;
+use crate::fault::{ModFault, ModKind};
+use crate::numbers::{is_hex, number_of};
 use crate::reader::{MAX_OPEN, Reader, Refused, fail_at};
 use crate::types::{bang_type, is_kept_word, ty, word_type};
 use mlir_lexer::TokenKind;
 use mlir_tree::attr::{Attr, AttrList, Dict};
 use mlir_tree::number::Number;
+use mlir_tree::refusal::Refusal;
 use mlir_tree::sign::Sign;
 use mlir_tree::text::{Text, TextList};
 use mlir_tree::ty::Ty;
@@ -94,6 +96,57 @@ fn is_float(reader: &mut Reader<'_>) -> Result<bool, Refused>
     }
 }
 
+fn is_inner(kind: ModKind) -> bool
+    ensures { result ≡ spec.is_inner kind }
+{
+    matches!(
+        kind,
+        ModKind::WideInt | ModKind::AliasUnknown | ModKind::TooMany
+    )
+}
+
+/// The fault of a decimal integer that begins at `at`, where the type that the reader is at has this fault.
+#[tactic(auto, unfolding(crate::specs::Attributes::number_fault))]
+fn number_fault(alloc: Global, reader: &mut Reader<'_>, at: usize, fault: ModFault) -> Refused
+    ensures { Fails {A = Unit {0}} result (Err (spec.number_fault at reader.old fault)) }
+{
+    if !(is_inner(fault.kind) && reader.start() < fault.at) {
+        return Refusal::Fault(fault);
+    }
+    match pass_type(alloc, reader) {
+        Ok(()) => fail_at(ModKind::IntRange, at),
+        Err(Refusal::Fault(_)) => Refusal::Fault(fault),
+        Err(Refusal::NoMemory) => Refusal::NoMemory,
+    }
+}
+
+/// The type of a number of this text, which begins at `at`.
+#[tactic(auto, unfolding(crate::specs::Attributes::fitting_type))]
+fn fitting_type(
+    alloc: Global,
+    reader: &mut Reader<'_>,
+    aliases: &Aliases,
+    room: u32,
+    at: usize,
+    float: bool,
+    text: &[u8],
+) -> Result<(usize, Ty), Refused>
+    ensures { Reads (spec.fitting_type aliases.now room at float text.now reader.old) result reader.new }
+{
+    let mut again = reader.again();
+    match typed_number(alloc, reader, aliases, room, float) {
+        Ok(found) => Ok(found),
+        Err(Refusal::NoMemory) => Err(Refusal::NoMemory),
+        Err(Refusal::Fault(fault)) => {
+            if float || is_hex(text) {
+                return Err(Refusal::Fault(fault));
+            }
+            again.eat(TokenKind::Colon);
+            Err(number_fault(alloc, &mut again, at, fault))
+        }
+    }
+}
+
 /// A number, behind its sign. The whole begins at `at`.
 #[tactic(auto, using(crate::proofs::Steps::lifted), unfolding(crate::specs::Attributes::number))]
 fn number(
@@ -108,7 +161,7 @@ fn number(
 {
     let float = is_float(reader)?;
     let text = reader.take();
-    let (ty_at, ty) = typed_number(alloc, reader, aliases, room, float)?;
+    let (ty_at, ty) = fitting_type(alloc, reader, aliases, room, at, float, text)?;
     number_of(alloc, at, ty_at, neg, float, text, ty)
 }
 

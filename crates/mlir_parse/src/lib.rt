@@ -3,6 +3,7 @@
 
 mod aliases;
 mod attributes;
+mod complete;
 mod dictionary;
 pub mod fault;
 mod file;

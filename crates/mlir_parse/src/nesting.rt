@@ -23,21 +23,21 @@ pub struct Scan {
     pub most: usize,
 }
 
-fn byte_at(bytes: &[u8], at: usize) -> u8
+pub fn byte_at(bytes: &[u8], at: usize) -> u8
     ensures { result ≡ slice_index bytes.now at }
 {
     if at < bytes.len() { bytes[at] } else { 0 }
 }
 
 /// What closes the innermost bracket.
-fn innermost(closers: &[u8]) -> u8
+pub fn innermost(closers: &[u8]) -> u8
     ensures { result ≡ spec.innermost closers.now }
 {
     byte_at(closers, closers.len().saturating_sub(1))
 }
 
 /// The open brackets behind a byte of this effect.
-fn move_closers(closers: &mut Items<u8>, effect: Effect, b: u8) -> Result<(), AllocError>
+pub fn move_closers(closers: &mut Items<u8>, effect: Effect, b: u8) -> Result<(), AllocError>
     requires { effect ≡ Opens → b ≤ 123 }
     ensures { OnOk result (closers.new ≡ spec.closers_by effect b closers.old) }
 {

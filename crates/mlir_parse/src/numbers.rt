@@ -68,7 +68,7 @@ pub fn token_value(text: &[u8]) -> Option<u128>
 }
 
 /// Whether the token of a number is hexadecimal.
-fn is_hex(text: &[u8]) -> bool
+pub fn is_hex(text: &[u8]) -> bool
     ensures { result ≡ spec.is_hex text.now }
 {
     text.len() > 1 && text[1] == b'x'

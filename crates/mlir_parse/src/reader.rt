@@ -4,10 +4,12 @@ ghost use Rattle.std.specs.Prelude.{◌≡◌, ◌≤◌, ◌<◌, ◌++◌, [],
 ghost use Rattle.mlir_parse.specs.Types as types;
 ghost use Rattle.mlir_parse.specs.Place as place;
 ghost use Rattle.mlir_parse.specs.Steps as steps;
+ghost use Rattle.mlir_parse.specs.Complete as complete;
 ghost use Rattle.mlir_parse.specs.Input.{after, expect, Reads, Fails};
 ghost use Rattle.mlir_tree.specs.declared.refusal.Refusal.TheVariants as refusals;
 
 use crate::aliases::{Alias, Aliases};
+use crate::complete;
 use crate::fault::{ModFault, ModKind};
 use crate::kept_text::names;
 use crate::locations::balanced;
@@ -60,6 +62,20 @@ impl<'a> Reader<'a> {
             put: 0,
             operations: 0,
             slots: 0,
+        }
+    }
+
+    /// A second reader at the same place.
+    pub fn again(&self) -> Reader<'a>
+        ensures { result ≡ self.now }
+    {
+        Reader {
+            bytes: self.bytes,
+            at: self.at,
+            token: self.token,
+            put: self.put,
+            operations: self.operations,
+            slots: self.slots,
         }
     }
 
@@ -282,6 +298,26 @@ impl<'a> Reader<'a> {
                 }
             }
             Err(fault) => Err(self.broken_body(alloc, aliases, room, token.start, fault)),
+        }
+    }
+
+    /// Takes the kept body that begins with the next token, however many brackets are open in it.
+    #[tactic(auto, unfolding(crate::specs::Complete::past_body))]
+    pub fn pass_body(&mut self, alloc: Global) -> Result<(), Refused>
+        ensures { Reads (complete.past_body self.old) result self.new }
+    {
+        let Ok(token) = self.token else {
+            return Err(self.refuse());
+        };
+        if !opens_body(self.bytes, token.start) {
+            return Err(self.refuse());
+        }
+        match complete::body_end(alloc, self.bytes, token.start)? {
+            Some(end) => {
+                self.go_to(end);
+                Ok(())
+            }
+            None => Err(self.refuse()),
         }
     }
 

@@ -265,6 +265,84 @@ fn faults_of_attributes(rt: HostRuntime) {
 }
 
 #[test]
+fn faults_of_numbers_before_faulty_types(rt: HostRuntime) {
+    let alloc = rt.alloc();
+    let rows: [(&[u8], ModKind, usize); 19] = [
+        (b"5 : (!undef) -> i32", ModKind::IntRange, 0),
+        (b"-5 : (i99999999) -> ()", ModKind::IntRange, 0),
+        (b"[5 : (i8) -> !undef]", ModKind::IntRange, 1),
+        (b"5 : (!undef) -> i32 ?", ModKind::IntRange, 0),
+        (
+            b"5 : ((!undef) -> (i32), i8) -> (i8, (i8) -> i8)",
+            ModKind::IntRange,
+            0,
+        ),
+        (
+            b"5 : (!undef, t<\">\" -> >, !s<[(i8)]>) -> ()",
+            ModKind::IntRange,
+            0,
+        ),
+        (b"5 : (!undef", ModKind::AliasUnknown, 5),
+        (b"5 : (!undef) -> ", ModKind::AliasUnknown, 5),
+        (b"5 : (!undef) i32", ModKind::AliasUnknown, 5),
+        (b"5 : (!undef,) -> i32", ModKind::AliasUnknown, 5),
+        (b"5 : (!undef) -> (i32", ModKind::AliasUnknown, 5),
+        (b"5 : (!undef, unit) -> i32", ModKind::AliasUnknown, 5),
+        (b"5 : (!undef, t<(>) -> i32", ModKind::AliasUnknown, 5),
+        (b"5 : (!undef, t<=>) -> i32", ModKind::AliasUnknown, 5),
+        (b"5 : (!undef, t<\"\\q\">) -> i32", ModKind::AliasUnknown, 5),
+        (b"5 : !undef", ModKind::AliasUnknown, 4),
+        (b"5 : i16777216", ModKind::WideInt, 4),
+        (b"5.0 : (!undef) -> i32", ModKind::AliasUnknown, 7),
+        (b"0x5 : (!undef) -> i32", ModKind::AliasUnknown, 7),
+    ];
+    for (text, kind, at) in rows {
+        assert_eq!(rt;
+            fault_of(parse_attr(alloc, text)),
+            Some(ModFault { kind, at })
+        );
+    }
+}
+
+/// `5 : tensor` and so many opening and closing brackets.
+fn number_before_brackets(
+    alloc: Global,
+    opening: usize,
+    closing: usize,
+) -> Result<Vec<u8>, AllocError> {
+    let mut text = Vec::from_slice(alloc, b"5 : tensor")?;
+    for _turn in 0..opening {
+        text.push(b'<')?;
+    }
+    for _turn in 0..closing {
+        text.push(b'>')?;
+    }
+    Ok(text)
+}
+
+#[test]
+fn numbers_before_types_of_many_brackets(rt: HostRuntime) -> Result<(), Fail> {
+    let alloc = rt.alloc();
+    let whole = number_before_brackets(alloc, 300, 300)?;
+    assert_eq!(rt;
+        fault_of(parse_attr(alloc, whole.as_slice())),
+        Some(ModFault {
+            kind: ModKind::IntRange,
+            at: 0
+        })
+    );
+    let broken = number_before_brackets(alloc, 300, 299)?;
+    assert_eq!(rt;
+        fault_of(parse_attr(alloc, broken.as_slice())),
+        Some(ModFault {
+            kind: ModKind::TooMany,
+            at: 266
+        })
+    );
+    Ok(())
+}
+
+#[test]
 fn at_most_256_brackets_are_open(rt: HostRuntime) -> Result<(), Fail> {
     let alloc = rt.alloc();
     let mut text: Vec<u8> = Vec::new(alloc);

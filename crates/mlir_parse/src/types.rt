@@ -36,7 +36,7 @@ pub fn is_kept_word(word: &[u8]) -> bool
 }
 
 /// Whether the word begins no type.
-fn is_other_word(word: &[u8]) -> bool
+pub fn is_other_word(word: &[u8]) -> bool
     ensures { result ≡ spec.is_other_word word.now }
 {
     word == b"unit".as_slice()

@@ -1,0 +1,4 @@
+pub mod Arithmetic
+pub mod Table
+pub mod Answers
+pub mod Laws
