@@ -33,7 +33,7 @@ fn rows_of(alloc: Global, text: &[u8]) -> Option<Rows> {
 #[test]
 fn faults(rt: HostRuntime) {
     let alloc = rt.alloc();
-    let rows: [(&[u8], ModKind, usize); 30] = [
+    let rows: [(&[u8], ModKind, usize); 31] = [
         (b"\"t.a\"(%x) : (i32) -> ()", ModKind::Undefined, 6),
         (
             b"\"t.a\"(%x) : (i32) -> ()\n%x = \"t.b\"() : () -> i32",
@@ -118,6 +118,11 @@ fn faults(rt: HostRuntime) {
             0,
         ),
         (b"%x:2 = \"t.a\"() : () -> i32", ModKind::CountDiffers, 0),
+        (
+            b"%x:65535 = \"t.a\"() : () -> ()\n",
+            ModKind::CountDiffers,
+            0,
+        ),
         (b"\"t.a\"() <{m}> {m} : () -> ()", ModKind::PropAndAttr, 15),
         (
             b"\"t.a\"() <{p, q}> {q, p} : () -> ()",
