@@ -1,10 +1,9 @@
 -- What the program prints for each kind of fault of a module file.
 use Rattle.std.specs.Prelude.{ℕ, Bool, true, false, List, codes}
 use Rattle.mlir_parse.specs.declared.fault.ModKind.{ModKind}
-use Rattle.mlir_parse.specs.declared.fault.ModKind.TheVariants.{NotBuilt, TooLong, NotUtf8, BadByte, BadString, Syntax, CustomForm, Successors, ManyBlocks, WideInt, IntRange, AliasUnknown, AliasTwice, DictTwice, TooMany, Undefined, Redefined, NotVisible, ResultIndex, TypeDiffers, CountDiffers, PropAndAttr}
+use Rattle.mlir_parse.specs.declared.fault.ModKind.TheVariants.{TooLong, NotUtf8, BadByte, BadString, Syntax, CustomForm, Successors, ManyBlocks, WideInt, IntRange, AliasUnknown, AliasTwice, DictTwice, TooMany, Undefined, Redefined, NotVisible, ResultIndex, TypeDiffers, CountDiffers, PropAndAttr}
 
 abbrev pub code_text : ModKind → List ℕ
-code_text NotBuilt = codes "M0 NotBuilt"
 code_text TooLong = codes "M1 TooLong"
 code_text NotUtf8 = codes "M2 NotUtf8"
 code_text BadByte = codes "M3 BadByte"

@@ -6,8 +6,6 @@ ghost use Rattle.mlir_parse.specs.Faults.{code_text};
 /// What is wrong with a module file.
 #[derive(Clone, Copy, Debug, PartialEq, Eq)]
 pub enum ModKind {
-    /// The file is a module that isn't built yet.
-    NotBuilt,
     /// The file has more bytes than the limit.
     TooLong,
     /// The bytes aren't UTF-8.
@@ -66,7 +64,6 @@ impl ModKind {
         ensures { result.now ≡ code_text self }
     {
         match self {
-            ModKind::NotBuilt => b"M0 NotBuilt",
             ModKind::TooLong => b"M1 TooLong",
             ModKind::NotUtf8 => b"M2 NotUtf8",
             ModKind::BadByte => b"M3 BadByte",

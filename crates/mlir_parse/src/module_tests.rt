@@ -1,5 +1,7 @@
 //! Module files, and their faults.
 
+ghost use Rattle.std.specs.Prelude.{◌<◌};
+
 use crate::fault::{ModFault, ModKind};
 use crate::parse_module;
 use crate::syn::{Syn, SynOp};
@@ -19,140 +21,199 @@ fn is_read(alloc: Global, text: &[u8]) -> bool {
     parse_module(alloc, text).is_ok()
 }
 
-#[test]
-fn faults(rt: HostRuntime) {
-    let alloc = rt.alloc();
-    let rows: [(&[u8], ModKind, usize); 13] = [
-        (
-            b"\"t.a\"() {v = 256 : i8} : () -> ()\n",
-            ModKind::IntRange,
-            13,
-        ),
-        (
-            b"\"t.a\"() {v = -129 : i8} : () -> ()\n",
-            ModKind::IntRange,
-            13,
-        ),
-        (b"func.func @f() { }", ModKind::CustomForm, 0),
-        (
+fn has_fault(alloc: Global, text: &[u8], kind: ModKind, at: usize) -> bool {
+    fault_of(alloc, text) == Some(ModFault { kind, at })
+}
+
+fn modules_have_faults(alloc: Global) -> bool {
+    has_fault(
+        alloc,
+        b"\"t.a\"() {v = 256 : i8} : () -> ()\n",
+        ModKind::IntRange,
+        13,
+    ) && has_fault(
+        alloc,
+        b"\"t.a\"() {v = -129 : i8} : () -> ()\n",
+        ModKind::IntRange,
+        13,
+    ) && has_fault(alloc, b"func.func @f() { }", ModKind::CustomForm, 0)
+        && has_fault(
+            alloc,
             b"\"t.a\"() ({^a: ^b: }) : () -> ()",
             ModKind::ManyBlocks,
             14,
-        ),
-        (b"\"t.a\"()[^b] : () -> ()", ModKind::Successors, 7),
-        (b"\"t.a\"() {s = \"ab", ModKind::BadString, 13),
-        (b"\"t.a\"() ({", ModKind::Syntax, 10),
-        (
+        )
+        && has_fault(alloc, b"\"t.a\"()[^b] : () -> ()", ModKind::Successors, 7)
+        && has_fault(alloc, b"\"t.a\"() {s = \"ab", ModKind::BadString, 13)
+        && has_fault(alloc, b"\"t.a\"() ({", ModKind::Syntax, 10)
+        && has_fault(
+            alloc,
             b"\"t.a\"() {aaaaaaaaaaaaaaaaaaaaaaaaaaaaaaa",
             ModKind::Syntax,
             40,
-        ),
-        (
+        )
+        && has_fault(
+            alloc,
             b"\"t.a\"() {aaaaaaaaaaaaaaaaaaaaaaaaaaaaaaaa",
             ModKind::Syntax,
             41,
-        ),
-        (
+        )
+        && has_fault(
+            alloc,
             b"\"t.a\"() {aaaaaaaaaaaaaaaaaaaaaaaaaaaaaaaaa",
             ModKind::Syntax,
             42,
-        ),
-        (b"\"t.a\"() {a, a} : () -> ()", ModKind::DictTwice, 12),
-        (b"\"t.a\"() : () -> ()\n \"t.b\" {", ModKind::Syntax, 26),
-        (b"%x:65536 = \"t.a\"() : () -> ()", ModKind::TooMany, 3),
-    ];
-    for (text, kind, at) in rows {
-        assert_eq!(rt; fault_of(alloc, text), Some(ModFault { kind, at }));
-    }
+        )
+        && has_fault(
+            alloc,
+            b"\"t.a\"() {a, a} : () -> ()",
+            ModKind::DictTwice,
+            12,
+        )
+        && has_fault(
+            alloc,
+            b"\"t.a\"() : () -> ()\n \"t.b\" {",
+            ModKind::Syntax,
+            26,
+        )
+        && has_fault(
+            alloc,
+            b"%x:65536 = \"t.a\"() : () -> ()",
+            ModKind::TooMany,
+            3,
+        )
+}
+
+#[test]
+fn faults(rt: HostRuntime) {
+    let alloc = rt.alloc();
+    assert!(rt; modules_have_faults(alloc));
+}
+
+fn operations_have_faults(alloc: Global) -> bool {
+    has_fault(alloc, b"\"t.a\"() \xFF", ModKind::NotUtf8, 8)
+        && has_fault(alloc, b"\"\"() : () -> ()", ModKind::Syntax, 0)
+        && has_fault(alloc, b"%a = f", ModKind::CustomForm, 5)
+        && has_fault(alloc, b"%a, = \"t.a\"() : () -> i1", ModKind::Syntax, 4)
+        && has_fault(alloc, b"%a:0 = \"t.a\"() : () -> i1", ModKind::Syntax, 3)
+        && has_fault(alloc, b"%a:0x10000 = \"t.a\"()", ModKind::TooMany, 3)
+        && has_fault(alloc, b"\"t.a\"(%a#b) : () -> ()", ModKind::Syntax, 8)
+        && has_fault(alloc, b"\"t.a\"() <{}> [", ModKind::Syntax, 13)
+        && has_fault(alloc, b"\"t.a\"() () : () -> ()", ModKind::Syntax, 9)
+        && has_fault(
+            alloc,
+            b"\"t.a\"() ({^a ^b: }) : () -> ()",
+            ModKind::Syntax,
+            13,
+        )
+        && has_fault(
+            alloc,
+            b"\"t.a\"() ({\"t.b\"() : () -> () ^b: }) : () -> ()",
+            ModKind::ManyBlocks,
+            29,
+        )
+        && has_fault(alloc, b"^a: \"t.a\"() : () -> ()", ModKind::Syntax, 0)
+        && has_fault(alloc, b"\"t.a\"() : () -> () -> ()", ModKind::Syntax, 19)
+        && has_fault(alloc, b"\"t.a\"() : i1", ModKind::Syntax, 10)
+        && has_fault(alloc, b"\"t.a\"() : () -> i16777216", ModKind::WideInt, 16)
+        && has_fault(
+            alloc,
+            b"\"t.a\"() : () -> () loc(\"a\" (b)",
+            ModKind::Syntax,
+            30,
+        )
+}
+
+fn operations_have_faults_more(alloc: Global) -> bool {
+    has_fault(
+        alloc,
+        b"\"t.a\"() : () -> () loc(\"a",
+        ModKind::BadString,
+        23,
+    ) && has_fault(
+        alloc,
+        b"\"t.a\"() : () -> () loc() loc()",
+        ModKind::CustomForm,
+        25,
+    ) && has_fault(alloc, b"\"t.a\"() : () -> () ?", ModKind::BadByte, 19)
+        && has_fault(alloc, b"\"t.a\"() {a = } ?", ModKind::Syntax, 13)
 }
 
 #[test]
 fn faults_of_operations(rt: HostRuntime) {
     let alloc = rt.alloc();
-    let rows: [(&[u8], ModKind, usize); 20] = [
-        (b"\"t.a\"() \xFF", ModKind::NotUtf8, 8),
-        (b"\"\"() : () -> ()", ModKind::Syntax, 0),
-        (b"%a = f", ModKind::CustomForm, 5),
-        (b"%a, = \"t.a\"() : () -> i1", ModKind::Syntax, 4),
-        (b"%a:0 = \"t.a\"() : () -> i1", ModKind::Syntax, 3),
-        (b"%a:0x10000 = \"t.a\"()", ModKind::TooMany, 3),
-        (b"\"t.a\"(%a#b) : () -> ()", ModKind::Syntax, 8),
-        (b"\"t.a\"() <{}> [", ModKind::Syntax, 13),
-        (b"\"t.a\"() () : () -> ()", ModKind::Syntax, 9),
-        (b"\"t.a\"() ({^a ^b: }) : () -> ()", ModKind::Syntax, 13),
-        (
-            b"\"t.a\"() ({\"t.b\"() : () -> () ^b: }) : () -> ()",
-            ModKind::ManyBlocks,
-            29,
-        ),
-        (b"^a: \"t.a\"() : () -> ()", ModKind::Syntax, 0),
-        (b"\"t.a\"() : () -> () -> ()", ModKind::Syntax, 19),
-        (b"\"t.a\"() : i1", ModKind::Syntax, 10),
-        (b"\"t.a\"() : () -> i16777216", ModKind::WideInt, 16),
-        (b"\"t.a\"() : () -> () loc(\"a\" (b)", ModKind::Syntax, 30),
-        (b"\"t.a\"() : () -> () loc(\"a", ModKind::BadString, 23),
-        (b"\"t.a\"() : () -> () loc() loc()", ModKind::CustomForm, 25),
-        (b"\"t.a\"() : () -> () ?", ModKind::BadByte, 19),
-        (b"\"t.a\"() {a = } ?", ModKind::Syntax, 13),
-    ];
-    for (text, kind, at) in rows {
-        assert_eq!(rt; fault_of(alloc, text), Some(ModFault { kind, at }));
-    }
+    assert!(rt; operations_have_faults(alloc));
+    assert!(rt; operations_have_faults_more(alloc));
+}
+
+fn aliases_have_faults(alloc: Global) -> bool {
+    has_fault(
+        alloc,
+        b"\"t.a\"() {v = #a} : () -> ()\n#a = 1 : i8",
+        ModKind::AliasUnknown,
+        13,
+    ) && has_fault(alloc, b"#a = 1 : i8 #a ?", ModKind::AliasTwice, 12)
+        && has_fault(alloc, b"#a = loc(x) #a = 1 : i8", ModKind::AliasTwice, 12)
+        && has_fault(alloc, b"#a.b = 1 : i8", ModKind::Syntax, 0)
+        && has_fault(
+            alloc,
+            b"#a = loc(x) \"t.a\"() {v = #a} : () -> ()",
+            ModKind::AliasUnknown,
+            25,
+        )
+        && has_fault(
+            alloc,
+            b"!a = i8 \"t.a\"() {v = #a} : () -> ()",
+            ModKind::AliasUnknown,
+            21,
+        )
+        && has_fault(alloc, b"#a = #a", ModKind::AliasUnknown, 5)
+        && has_fault(alloc, b"#a = ", ModKind::Syntax, 5)
+        && has_fault(alloc, b"!a = 1", ModKind::Syntax, 5)
 }
 
 #[test]
 fn faults_of_aliases(rt: HostRuntime) {
     let alloc = rt.alloc();
-    let rows: [(&[u8], ModKind, usize); 9] = [
-        (
-            b"\"t.a\"() {v = #a} : () -> ()\n#a = 1 : i8",
-            ModKind::AliasUnknown,
-            13,
-        ),
-        (b"#a = 1 : i8 #a ?", ModKind::AliasTwice, 12),
-        (b"#a = loc(x) #a = 1 : i8", ModKind::AliasTwice, 12),
-        (b"#a.b = 1 : i8", ModKind::Syntax, 0),
-        (
-            b"#a = loc(x) \"t.a\"() {v = #a} : () -> ()",
-            ModKind::AliasUnknown,
-            25,
-        ),
-        (
-            b"!a = i8 \"t.a\"() {v = #a} : () -> ()",
-            ModKind::AliasUnknown,
-            21,
-        ),
-        (b"#a = #a", ModKind::AliasUnknown, 5),
-        (b"#a = ", ModKind::Syntax, 5),
-        (b"!a = 1", ModKind::Syntax, 5),
-    ];
-    for (text, kind, at) in rows {
-        assert_eq!(rt; fault_of(alloc, text), Some(ModFault { kind, at }));
-    }
+    assert!(rt; aliases_have_faults(alloc));
+}
+
+fn modules_are_read(alloc: Global) -> bool {
+    is_read(alloc, b"")
+        && is_read(alloc, b"\"t.a\"() {v = 255 : i8} : () -> ()\n")
+        && is_read(alloc, b"\"t.a\"() {v = -128 : i8} : () -> ()\n")
+        && is_read(alloc, b"\"t.a\"() {v = 1 : i1} : () -> ()\n")
+        && is_read(alloc, b"\"t.a\"() {v = 7} : () -> ()\n")
+        && is_read(alloc, b"\"t.a\"() {v = 1.5 : f32} : () -> ()\n")
+        && is_read(alloc, b"\"t.a\"(%x) : (i32) -> ()")
+        && is_read(
+            alloc,
+            b"\"t.a\"(%x) : (i32) -> ()\n%x = \"t.b\"() : () -> i32",
+        )
+        && is_read(alloc, b"%x:65535 = \"t.a\"() : () -> ()")
+        && is_read(
+            alloc,
+            b"%a:2, %b = \"t.a\"(%c#1, %c#002) <{}> ({}, {^a:}) {} : (i1, i2) -> (i3, () -> ())",
+        )
+        && is_read(
+            alloc,
+            b"#l = loc(\"a\":1:2) \"t.a\"() ({^a(%0: i1 loc(#l), %1: i2): \"t.b\"() : () -> i1 loc(((\")\")))}) : () -> ()",
+        )
+        && is_read(
+            alloc,
+            b"!f = () -> i8 #a = {x = !f} \"t.a\"() {v = #a} : () -> !f #b = #a",
+        )
+        && is_read(
+            alloc,
+            b"#map = affine_map<(d0) -> (d0 + 1)>\n\"builtin.module\"() ({\n  \"func.func\"() <{function_type = (i32) -> i32, sym_name = \"f\", sym_visibility = \"private\"}> ({\n  }) : () -> () loc(#loc1)\n  %0 = \"arith.constant\"() <{value = dense<[1, 2]> : tensor<2xi32>}> : () -> tensor<2xi32>\n  \"t.m\"() {map = #map, t = memref<4xf32, #map>} : () -> ()\n}) : () -> ()\n#loc1 = loc(\"x.mlir\":1:1)\n",
+        )
+        && is_read(alloc, b"\"t.\\61\"() : () -> ()")
 }
 
 #[test]
 fn modules_that_are_read(rt: HostRuntime) {
     let alloc = rt.alloc();
-    let texts: [&[u8]; 14] = [
-        b"",
-        b"\"t.a\"() {v = 255 : i8} : () -> ()\n",
-        b"\"t.a\"() {v = -128 : i8} : () -> ()\n",
-        b"\"t.a\"() {v = 1 : i1} : () -> ()\n",
-        b"\"t.a\"() {v = 7} : () -> ()\n",
-        b"\"t.a\"() {v = 1.5 : f32} : () -> ()\n",
-        b"\"t.a\"(%x) : (i32) -> ()",
-        b"\"t.a\"(%x) : (i32) -> ()\n%x = \"t.b\"() : () -> i32",
-        b"%x:65535 = \"t.a\"() : () -> ()",
-        b"%a:2, %b = \"t.a\"(%c#1, %c#002) <{}> ({}, {^a:}) {} : (i1, i2) -> (i3, () -> ())",
-        b"#l = loc(\"a\":1:2) \"t.a\"() ({^a(%0: i1 loc(#l), %1: i2): \"t.b\"() : () -> i1 loc(((\")\")))}) : () -> ()",
-        b"!f = () -> i8 #a = {x = !f} \"t.a\"() {v = #a} : () -> !f #b = #a",
-        b"#map = affine_map<(d0) -> (d0 + 1)>\n\"builtin.module\"() ({\n  \"func.func\"() <{function_type = (i32) -> i32, sym_name = \"f\", sym_visibility = \"private\"}> ({\n  }) : () -> () loc(#loc1)\n  %0 = \"arith.constant\"() <{value = dense<[1, 2]> : tensor<2xi32>}> : () -> tensor<2xi32>\n  \"t.m\"() {map = #map, t = memref<4xf32, #map>} : () -> ()\n}) : () -> ()\n#loc1 = loc(\"x.mlir\":1:1)\n",
-        b"\"t.\\61\"() : () -> ()",
-    ];
-    for text in texts {
-        assert!(rt; is_read(alloc, text));
-    }
+    assert!(rt; modules_are_read(alloc));
 }
 
 fn has_names(op: &SynOp) -> bool {
@@ -250,25 +311,24 @@ fn alias_in(alloc: Global, count: usize, value: &[u8]) -> Result<Vec<u8>, AllocE
     Ok(text)
 }
 
+/// Whether the value is read with an alias of so many brackets, and with one more it has this fault.
+fn counts_brackets(alloc: Global, value: &[u8], count: usize, at: usize) -> Result<bool, AllocError>
+    requires { count < 1000 }
+{
+    let whole = alias_in(alloc, count, value)?;
+    let deeper = alias_in(alloc, count + 1, value)?;
+    Ok(
+        is_read(alloc, whole.as_slice())
+            && has_fault(alloc, deeper.as_slice(), ModKind::TooMany, at),
+    )
+}
+
 #[test]
 fn brackets_of_an_alias_count_at_its_use(rt: HostRuntime) -> Result<(), Fail> {
     let alloc = rt.alloc();
-    let rows: [(&[u8], usize, usize); 3] = [
-        (b"[#a]", 254, 530),
-        (b"dense<#a>", 254, 535),
-        (b"t.b<(\")\", #a)>", 253, 537),
-    ];
-    for (value, count, at) in rows {
-        assert!(rt; is_read(alloc, alias_in(alloc, count, value)?.as_slice()));
-        let too_many = ModFault {
-            kind: ModKind::TooMany,
-            at,
-        };
-        assert_eq!(rt;
-            fault_of(alloc, alias_in(alloc, count + 1, value)?.as_slice()),
-            Some(too_many)
-        );
-    }
+    assert!(rt; counts_brackets(alloc, b"[#a]", 254, 530)?);
+    assert!(rt; counts_brackets(alloc, b"dense<#a>", 254, 535)?);
+    assert!(rt; counts_brackets(alloc, b"t.b<(\")\", #a)>", 253, 537)?);
     Ok(())
 }
 
@@ -300,24 +360,25 @@ fn nested_use(alloc: Global, depth: usize, rest: &[u8]) -> Result<Vec<u8>, Alloc
     Ok(text)
 }
 
+fn is_broken(
+    alloc: Global,
+    rest: &[u8],
+    depth: usize,
+    kind: ModKind,
+    at: usize,
+) -> Result<bool, AllocError> {
+    let text = nested_use(alloc, depth, rest)?;
+    Ok(has_fault(alloc, text.as_slice(), kind, at))
+}
+
 #[test]
 fn aliases_that_pass_a_limit_in_broken_bodies(rt: HostRuntime) -> Result<(), Fail> {
     let alloc = rt.alloc();
-    let rows: [(&[u8], usize, ModKind, usize); 5] = [
-        (b" #a", 130, ModKind::TooMany, 407),
-        (b" #a ]", 130, ModKind::TooMany, 407),
-        (b" #a \"", 130, ModKind::TooMany, 407),
-        (b" #a", 10, ModKind::Syntax, 49),
-        (b"] #a", 130, ModKind::Syntax, 406),
-    ];
-    for (rest, depth, kind, at) in rows {
-        assert!(rt; depth < 1000);
-        let text = nested_use(alloc, depth, rest)?;
-        assert_eq!(rt;
-            fault_of(alloc, text.as_slice()),
-            Some(ModFault { kind, at })
-        );
-    }
+    assert!(rt; is_broken(alloc, b" #a", 130, ModKind::TooMany, 407)?);
+    assert!(rt; is_broken(alloc, b" #a ]", 130, ModKind::TooMany, 407)?);
+    assert!(rt; is_broken(alloc, b" #a \"", 130, ModKind::TooMany, 407)?);
+    assert!(rt; is_broken(alloc, b" #a", 10, ModKind::Syntax, 49)?);
+    assert!(rt; is_broken(alloc, b"] #a", 130, ModKind::Syntax, 406)?);
     Ok(())
 }
 
@@ -330,29 +391,47 @@ fn entry_with_aliases(alloc: Global, value: &[u8]) -> Result<Vec<u8>, AllocError
     Ok(text)
 }
 
+/// Whether the value is read as this text.
+fn reads_as(alloc: Global, value: &[u8], wanted: &[u8]) -> Result<bool, AllocError> {
+    match parse_module(alloc, entry_with_aliases(alloc, value)?.as_slice()) {
+        Ok(file) => has_value(alloc, &file, wanted),
+        Err(_) => Ok(false),
+    }
+}
+
 #[test]
 fn aliases_in_kept_bodies(rt: HostRuntime) -> Result<(), Fail> {
     let alloc = rt.alloc();
-    let rows: [(&[u8], &[u8]); 6] = [
-        (b"dense<#a, !b>", b"dense<3 : i64, i32>"),
-        (b"#t.b<[#a], (!b) -> !b>", b"#t.b<[3 : i64], (i32) -> i32>"),
-        (b"dense<#a.b, #a-, #a<1>>", b"dense<#a.b, #a-, #a<1>>"),
-        (
+    assert!(rt; reads_as(alloc, b"dense<#a, !b>", b"dense<3 : i64, i32>")?);
+    assert!(rt;
+        reads_as(
+            alloc,
+            b"#t.b<[#a], (!b) -> !b>",
+            b"#t.b<[3 : i64], (i32) -> i32>"
+        )?
+    );
+    assert!(rt;
+        reads_as(
+            alloc,
+            b"dense<#a.b, #a-, #a<1>>",
+            b"dense<#a.b, #a-, #a<1>>"
+        )?
+    );
+    assert!(rt;
+        reads_as(
+            alloc,
             b"dense<\"#a\", #l, #c, !a, #b>",
-            b"dense<\"#a\", #l, #c, !a, #b>",
-        ),
-        (
+            b"dense<\"#a\", #l, #c, !a, #b>"
+        )?
+    );
+    assert!(rt;
+        reads_as(
+            alloc,
             b"dense<#a> : tensor<1x!b>",
-            b"dense<3 : i64> : tensor<1xi32>",
-        ),
-        (b"[#a, !b]", b"[3 : i64, i32]"),
-    ];
-    for (value, wanted) in rows {
-        match parse_module(alloc, entry_with_aliases(alloc, value)?.as_slice()) {
-            Ok(file) => assert!(rt; has_value(alloc, &file, wanted)?),
-            Err(_) => assert!(rt; false),
-        }
-    }
+            b"dense<3 : i64> : tensor<1xi32>"
+        )?
+    );
+    assert!(rt; reads_as(alloc, b"[#a, !b]", b"[3 : i64, i32]")?);
     Ok(())
 }
 

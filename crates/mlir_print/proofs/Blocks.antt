@@ -11,7 +11,7 @@ use Rattle.mlir_tree.specs.WellFormed.{AreDistinct, AreNested}
 use Rattle.mlir_print.specs.ModuleText.{is_empty, region_of, row_text, rows_in, inside_text}
 use Rattle.mlir_print.specs.Printable.{AreArguments}
 use Rattle.mlir_print.specs.Cursor.{stands_at, IsOpen, AreEarlier, EndsRow, row_text_at}
-use Rattle.mlir_print.proofs.Places.{true_or_false, IsAt, found_at}
+use Rattle.mlir_tree.proofs.Places.{true_or_false, IsAt, found_at}
 use Rattle.mlir_print.proofs.Closing.{standing, close_region, none_left}
 use Rattle.mlir_print.proofs.RowTexts.{rows_from, rows_first, rows_none}
 use Rattle.mlir_print.proofs.Parts.{row_filled}

@@ -11,7 +11,7 @@ use Rattle.mlir_tree.specs.Module.{home_eq, is_inside, is_contained}
 use Rattle.mlir_tree.specs.WellFormed.{AreDistinct, AreNested}
 use Rattle.mlir_print.specs.ModuleText.{stands_in, region_of}
 use Rattle.mlir_print.specs.Cursor.{stands_at, NoneStand, IsBehind, IsOpen, AreInside, AreEarlier, EndsRow}
-use Rattle.mlir_print.proofs.Places.{true_or_false, both_true, true_false, IsAt, same_place, same_row, earlier_at, home_row, stands_inside, stands_contained, containing, contained_later}
+use Rattle.mlir_tree.proofs.Places.{true_or_false, both_true, true_false, IsAt, same_place, same_row, earlier_at, home_row, stands_inside, stands_contained, containing, contained_later}
 
 -- ---- rows that stand in a region
 

@@ -17,7 +17,7 @@ use Rattle.mlir_print.specs.declared.numbers.RowNumbers.{RowNumbers}
 use Rattle.mlir_print.specs.Numbering.{has_results, with_results, arguments_of, arguments_in, place_of, rows_before, result_number, argument_number}
 use Rattle.mlir_print.specs.Starts.{starts}
 use Rattle.mlir_print.specs.NumberMaps.{result_in, argument_in, place_in, AreNumbersOf}
-use Rattle.mlir_print.proofs.Places.{true_or_false, IsAt, nothing_at, apart_at}
+use Rattle.mlir_tree.proofs.Places.{true_or_false, IsAt, nothing_at, apart_at}
 use Rattle.mlir_print.proofs.Lookups.{found_there, none_there}
 
 -- ---- how many there are

@@ -2,7 +2,6 @@ pub mod Printing
 pub mod Lists
 pub mod Parts
 pub mod Runs
-pub mod Places
 pub mod Closing
 pub mod RowTexts
 pub mod Lookups

@@ -10,7 +10,7 @@ use Rattle.mlir_print.specs.declared.numbers.Numbers.{Numbers}
 use Rattle.mlir_print.specs.declared.numbers.RowNumbers.{RowNumbers}
 use Rattle.mlir_print.specs.Numbering.{place_of, with_results, result_number, argument_number}
 use Rattle.mlir_print.specs.NumberMaps.{AreNumbersOf, argument_in}
-use Rattle.mlir_print.proofs.Places.{true_or_false}
+use Rattle.mlir_tree.proofs.Places.{true_or_false}
 
 -- the row at the place of a number
 pub record Found (rows : List Row) (d i : ℕ) : Type 0 where

@@ -10,7 +10,7 @@ use Rattle.mlir_tree.specs.WellFormed.{HasVisibleOperands, IsWellFormed}
 use Rattle.mlir_print.specs.declared.numbers.Numbers.{Numbers}
 use Rattle.mlir_print.specs.NumberMaps.{AreNumbersOf}
 use Rattle.mlir_print.specs.Printable.{AreValues, IsPrintable}
-use Rattle.mlir_print.proofs.Places.{both_true}
+use Rattle.mlir_tree.proofs.Places.{both_true}
 
 visible_value : (rows : List Row) (u : ℕ) (v : Val) → IsVisible rows v u → IsTrue (is_value rows v)
 unfolding is_visible

@@ -5,7 +5,7 @@ use Rattle.mlir_tree.specs.declared.row.Home.{Home}
 use Rattle.mlir_tree.specs.declared.row.Row.{Row}
 use Rattle.mlir_print.specs.ModuleText.{region_of, row_text, rows_in}
 use Rattle.mlir_print.specs.Cursor.{stands_at, NoneStand}
-use Rattle.mlir_print.proofs.Places.{IsAt, nothing_at}
+use Rattle.mlir_tree.proofs.Places.{IsAt, nothing_at}
 
 -- the next row stands elsewhere
 rows_other : (all rows : List Row) (a depth : ℕ) (h : Home) → stands_at rows a h ≡ false → rows_in all (drop a rows) depth h ≡ rows_in all (drop (suc a) rows) depth h

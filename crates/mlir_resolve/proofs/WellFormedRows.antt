@@ -1,6 +1,6 @@
 -- The rows of a tree without a fault are well-formed.
 use Rattle.std.proofs.Common.{◌≡◌, ◌<◌, ◌≤◌, ◌+◌, ◌^◌, ℕ, zero, suc, Bool, true, false, ◌&&◌, ◌||◌, List, [], ◌∷◌, length, map, get_or, codes, Option, Some, None, Result, Ok, Err, refl, sym, ap, subst, ◌∙◌, arith, cond}
-use Rattle.std.specs.Prelude.{IfOk, ◌==◌, nat_lt, slice_get, IsSome, All, Contains, find, flat_map, filter_map}
+use Rattle.std.specs.Prelude.{IfOk, IfSome, ◌==◌, nat_lt, slice_get, IsSome, All, Contains, find, flat_map, filter_map}
 use Rattle.std.specs.Option.{option_or, option_map, option_map_or}
 use Rattle.std.specs.List.{AllByRecursion, cons_option}
 use Rattle.std.specs.Str.{bytes_eq}
@@ -17,7 +17,7 @@ use Rattle.mlir_tree.specs.declared.value.Val.TheVariants.{Res, Arg}
 use Rattle.mlir_tree.specs.Tree.{Ty}
 use Rattle.mlir_tree.specs.Range.{AreRising}
 use Rattle.mlir_tree.specs.Module.{row_of, has_argument, is_value, is_in_scope, is_visible, IsVisible, enclosing}
-use Rattle.mlir_tree.specs.WellFormed.{BeginsWithModule, HasVisibleOperands, names, HasDictionaries, HasSizes, IsWellFormed}
+use Rattle.mlir_tree.specs.WellFormed.{BeginsWithModule, HomesAreLower, HasVisibleOperands, names, HasDictionaries, HasSizes, IsWellFormed}
 use Rattle.mlir_tree.specs.declared.refusal.Refusal.{Refusal}
 use Rattle.mlir_tree.specs.declared.refusal.Refusal.TheVariants as refusal
 use Rattle.mlir_parse.specs.Input.{Gives}
@@ -32,8 +32,8 @@ use Rattle.mlir_parse.specs.Limits.{syn_names, IsOperationKept, AreOperationsKep
 use Rattle.mlir_resolve.specs.Laid.{Laid, arguments_of, has_no_values, row_with, bare_rows, entry_pair, argument_types, laid_operation, laid_regions, module_of, is_module, is_module_shape, implied_module}
 use Rattle.mlir_resolve.specs.Sight.{Definition, value_at, definitions, is_of_region, is_defined, is_in_sight, first_in_sight, meaning_at, row_definitions}
 use Rattle.mlir_resolve.specs.Resolving.{Names, or_then, known_use_fault, use_fault, uses_fault, count_fault, types_fault, has_entry, lesser, least_shared, entries_fault, head_fault, names_at, operation_fault, used_value, resolved_rows, rows_or, resolved}
-use Rattle.mlir_resolve.proofs.Spans.{AllAt, IsBetween, operation_numbers, inner_homes}
-use Rattle.mlir_resolve.proofs.RowFacts.{fact_of}
+use Rattle.mlir_resolve.proofs.Spans.{AllAt, IsBetween, IsBefore, operation_numbers, inner_homes}
+use Rattle.mlir_resolve.proofs.RowFacts.{fact_of, homes_before}
 use Rattle.mlir_resolve.proofs.Nested as nested
 use Rattle.mlir_resolve.proofs.Nested.{rows_by, blank}
 use Rattle.mlir_resolve.proofs.SameScopes.{same_scope}
@@ -330,6 +330,14 @@ module _ (o : Operation) where
           All-from_recursion (λ v. IsVisible (rows_by operands_of ls) v row.id) (operands_of row)
           (subst (λ (n : ℕ). AllByRecursion (λ v. IsVisible (rows_by operands_of ls) v n) (filter_map (used_value (names_at ls n)) row.head.operands)) number (all_visible operands_of o k row.head.operands l a.0))
 
+  -- numbers are above those of homes
+  pub lower : HomesAreLower (resolved_rows (laid_operation 0 None o)).rows
+  lower = each_row operands_of (λ r. IfSome r.home (λ h. h.row < r.id)) tree (λ k l. by_home k l (get_or tree k blank).home refl)
+    where
+      by_home : (k : ℕ) → k < length (laid_operation 0 None o) → (x : Option Home) → (get_or (laid_operation 0 None o) k blank).home ≡ x → IfSome x (λ h. h.row < (get_or (laid_operation 0 None o) k blank).id)
+      by_home k l None is = tt
+      by_home k l (Some h) is = omega (arith, nested.id_is operands_of o k l, (fact_of IsBefore (laid_operation 0 None o) k blank (homes_before o) l).before h is)
+
 pub well_formed_rows : (file : Syn) (m : Rows) → KeepsLimits file → resolved file ≡ Ok m → IsWellFormed m
 unfolding resolved
 well_formed_rows file m kept is = by_fault (operation_fault (laid_operation 0 None (module_of file.ops)) 0 None (module_of file.ops)) refl is
@@ -345,3 +353,16 @@ pub given_well_formed : (file : Syn) (r : Result Rows (Refusal ModFault)) → Ke
 given_well_formed file (Ok m) kept gives = well_formed_rows file m kept gives
 given_well_formed file (Err refusal.NoMemory) kept gives = tt
 given_well_formed file (Err (refusal.Fault f)) kept gives = tt
+
+-- the same of the numbers of homes
+pub lower_homes : (file : Syn) (r : Result Rows (Refusal ModFault)) → Gives r (resolved file) → IfOk r (λ m. HomesAreLower m.rows)
+unfolding resolved
+lower_homes file (Ok m) gives = by_fault (operation_fault (laid_operation 0 None (module_of file.ops)) 0 None (module_of file.ops)) gives
+  where
+    by_fault : (x : Option ModFault) → rows_or (laid_operation 0 None (module_of file.ops)) x ≡ Ok m → HomesAreLower m.rows
+    by_fault (Some e) h = absurd (cc)
+    by_fault None h =
+        let same : resolved_rows (laid_operation 0 None (module_of file.ops)) ≡ m = cc in
+        subst (λ (n : Rows). HomesAreLower n.rows) same (lower (module_of file.ops))
+lower_homes file (Err refusal.NoMemory) gives = tt
+lower_homes file (Err (refusal.Fault f)) gives = tt

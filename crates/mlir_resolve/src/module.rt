@@ -1,7 +1,7 @@
 //! From the tree of a file to its rows.
 
 ghost use Rattle.std.specs.Prelude.{◌≡◌, ◌≤◌, [], ◌∷◌, length, Ok, IfOk, OnOk, None};
-ghost use Rattle.mlir_tree.specs.WellFormed.{IsWellFormed};
+ghost use Rattle.mlir_tree.specs.WellFormed.{HomesAreLower, IsWellFormed};
 ghost use Rattle.mlir_parse.specs.Input.{Gives};
 ghost use Rattle.mlir_parse.specs.Limits.{KeepsLimits};
 ghost use Rattle.mlir_parse.specs.SynTree.{operations};
@@ -112,6 +112,8 @@ pub fn resolve(alloc: Global, file: &Syn) -> Result<Rows, Refusal<ModFault>>
     ensures exact { Gives result (resolved file.now) }
     // The rows are a module.
     ensures well_formed { IfOk result (λ m. IsWellFormed m) }
+    // Each row's number is above that of the row in which it stands.
+    ensures homes { IfOk result (λ m. HomesAreLower m.rows) }
     // A module has at most 1,000,001 rows, and at most 16,000,000 operands and results.
     ensures few { IfOk result (λ m. m.next ≤ 1000001) }
     ensures slots { IfOk result (λ m. slots_of m.rows ≤ 16000000) }

@@ -30,145 +30,189 @@ fn rows_of(alloc: Global, text: &[u8]) -> Option<Rows> {
     resolve(alloc, &file).ok()
 }
 
-#[test]
-fn faults(rt: HostRuntime) {
-    let alloc = rt.alloc();
-    let rows: [(&[u8], ModKind, usize); 31] = [
-        (b"\"t.a\"(%x) : (i32) -> ()", ModKind::Undefined, 6),
-        (
+fn has_fault(alloc: Global, text: &[u8], kind: ModKind, at: usize) -> bool {
+    fault_of(alloc, text) == Some(ModFault { kind, at })
+}
+
+fn modules_have_faults(alloc: Global) -> bool {
+    has_fault(alloc, b"\"t.a\"(%x) : (i32) -> ()", ModKind::Undefined, 6)
+        && has_fault(
+            alloc,
             b"\"t.a\"(%x) : (i32) -> ()\n%x = \"t.b\"() : () -> i32",
             ModKind::NotVisible,
             6,
-        ),
-        (b"%x = \"t.a\"(%x) : (i32) -> i32", ModKind::NotVisible, 11),
-        (
+        )
+        && has_fault(
+            alloc,
+            b"%x = \"t.a\"(%x) : (i32) -> i32",
+            ModKind::NotVisible,
+            11,
+        )
+        && has_fault(
+            alloc,
             b"%x = \"t.a\"() ({\n\"t.b\"(%x) : (i32) -> ()\n}) : () -> i32",
             ModKind::NotVisible,
             22,
-        ),
-        (
+        )
+        && has_fault(
+            alloc,
             b"\"t.a\"() ({\n%x = \"t.b\"() : () -> i32\n}, {\n\"t.c\"(%x) : (i32) -> ()\n}) : () -> ()",
             ModKind::NotVisible,
             47,
-        ),
-        (
+        )
+        && has_fault(
+            alloc,
             b"\"t.a\"() ({\n%x = \"t.b\"() : () -> i32\n}) : () -> ()\n\"t.c\"(%x) : (i32) -> ()",
             ModKind::NotVisible,
             56,
-        ),
-        (
+        )
+        && has_fault(
+            alloc,
             b"\"t.a\"() ({\n^b(%x : i32):\n}) : () -> ()\n\"t.c\"(%x) : (i32) -> ()",
             ModKind::NotVisible,
             45,
-        ),
-        (b"%x = \"t.b\"() : () -> ()\n", ModKind::CountDiffers, 0),
-        (
+        )
+        && has_fault(
+            alloc,
+            b"%x = \"t.b\"() : () -> ()\n",
+            ModKind::CountDiffers,
+            0,
+        )
+        && has_fault(
+            alloc,
             b"\"t.a\"() ({\n^b(%x : i32, %x : i32):\n}) : () -> ()",
             ModKind::Redefined,
             24,
-        ),
-        (
+        )
+        && has_fault(
+            alloc,
             b"\"t.a\"() ({\n^b(%x : i32):\n%x = \"t.b\"() : () -> i32\n}) : () -> ()",
             ModKind::Redefined,
             25,
-        ),
-        (
+        )
+        && has_fault(
+            alloc,
             b"%x = \"t.a\"() : () -> i32\n%x = \"t.b\"() : () -> i32",
             ModKind::Redefined,
             25,
-        ),
-        (
+        )
+        && has_fault(
+            alloc,
             b"%x, %y, %x = \"t.a\"() : () -> (i32, i32, i32)",
             ModKind::Redefined,
             8,
-        ),
-        (
+        )
+        && has_fault(
+            alloc,
             b"%x = \"t.a\"() : () -> i32\n\"t.b\"(%x#1) : (i32) -> ()",
             ModKind::ResultIndex,
             31,
-        ),
-        (
+        )
+        && has_fault(
+            alloc,
             b"%x:2 = \"t.a\"() : () -> (i32, i64)\n\"t.b\"(%x#2) : (i32) -> ()",
             ModKind::ResultIndex,
             40,
-        ),
-        (
+        )
+        && has_fault(
+            alloc,
             b"%x:2 = \"t.a\"() : () -> (i32, i64)\n\"t.b\"(%x#1) : (i32) -> ()",
             ModKind::TypeDiffers,
             40,
-        ),
-        (
+        )
+        && has_fault(
+            alloc,
             b"%x = \"t.a\"() : () -> i32\n\"t.b\"(%x, %x) : (i32, i64) -> ()",
             ModKind::TypeDiffers,
             35,
-        ),
-        (
-            b"%x = \"t.a\"() : () -> i32\n\"t.b\"(%x) : () -> ()",
-            ModKind::CountDiffers,
-            37,
-        ),
-        (
-            b"%x = \"t.a\"() : () -> i32\n\"t.b\"(%x) : (i32, i32) -> ()",
-            ModKind::CountDiffers,
-            37,
-        ),
-        (
-            b"%x = \"t.a\"() : () -> (i32, i32)",
-            ModKind::CountDiffers,
-            0,
-        ),
-        (b"%x:2 = \"t.a\"() : () -> i32", ModKind::CountDiffers, 0),
-        (
-            b"%x:65535 = \"t.a\"() : () -> ()\n",
-            ModKind::CountDiffers,
-            0,
-        ),
-        (b"\"t.a\"() <{m}> {m} : () -> ()", ModKind::PropAndAttr, 15),
-        (
-            b"\"t.a\"() <{p, q}> {q, p} : () -> ()",
-            ModKind::PropAndAttr,
-            18,
-        ),
-        (
-            b"\"t.a\"() <{p, q, r}> {s, r, a, p} : () -> ()",
-            ModKind::PropAndAttr,
-            24,
-        ),
-        (b"\"t.a\"(%x) : () -> ()", ModKind::Undefined, 6),
-        (
+        )
+}
+
+fn modules_have_faults_more(alloc: Global) -> bool {
+    has_fault(
+        alloc,
+        b"%x = \"t.a\"() : () -> i32\n\"t.b\"(%x) : () -> ()",
+        ModKind::CountDiffers,
+        37,
+    ) && has_fault(
+        alloc,
+        b"%x = \"t.a\"() : () -> i32\n\"t.b\"(%x) : (i32, i32) -> ()",
+        ModKind::CountDiffers,
+        37,
+    ) && has_fault(
+        alloc,
+        b"%x = \"t.a\"() : () -> (i32, i32)",
+        ModKind::CountDiffers,
+        0,
+    ) && has_fault(
+        alloc,
+        b"%x:2 = \"t.a\"() : () -> i32",
+        ModKind::CountDiffers,
+        0,
+    ) && has_fault(
+        alloc,
+        b"%x:65535 = \"t.a\"() : () -> ()\n",
+        ModKind::CountDiffers,
+        0,
+    ) && has_fault(
+        alloc,
+        b"\"t.a\"() <{m}> {m} : () -> ()",
+        ModKind::PropAndAttr,
+        15,
+    ) && has_fault(
+        alloc,
+        b"\"t.a\"() <{p, q}> {q, p} : () -> ()",
+        ModKind::PropAndAttr,
+        18,
+    ) && has_fault(
+        alloc,
+        b"\"t.a\"() <{p, q, r}> {s, r, a, p} : () -> ()",
+        ModKind::PropAndAttr,
+        24,
+    ) && has_fault(alloc, b"\"t.a\"(%x) : () -> ()", ModKind::Undefined, 6)
+        && has_fault(
+            alloc,
             b"%x = \"t.z\"() : () -> i32\n\"t.b\"(%x) : (i64, i64) -> ()",
             ModKind::CountDiffers,
             37,
-        ),
-        (
+        )
+        && has_fault(
+            alloc,
             b"%x = \"t.z\"() : () -> i32\n\"t.b\"(%x) <{p}> {p} : (i64) -> ()",
             ModKind::TypeDiffers,
             31,
-        ),
-        (
+        )
+        && has_fault(
+            alloc,
             b"\"t.a\"() <{p}> ({\n\"t.b\"(%x) : (i32) -> ()\n}) {p} : () -> ()",
             ModKind::PropAndAttr,
             45,
-        ),
-        (
+        )
+        && has_fault(
+            alloc,
             b"%y = \"t.a\"() ({\n\"t.b\"(%x) : (i32) -> ()\n}) : () -> ()",
             ModKind::Undefined,
             22,
-        ),
-        (
+        )
+        && has_fault(
+            alloc,
             b"%y = \"t.z\"() : () -> i32\n%y = \"t.a\"() : () -> ()",
             ModKind::CountDiffers,
             25,
-        ),
-        (
+        )
+        && has_fault(
+            alloc,
             b"\"t.a\"(%x) ({\n^b(%y : i32, %y : i32):\n}) : (i32) -> ()",
             ModKind::Undefined,
             6,
-        ),
-    ];
-    for (text, kind, at) in rows {
-        assert_eq!(rt; fault_of(alloc, text), Some(ModFault { kind, at }));
-    }
+        )
+}
+
+#[test]
+fn faults(rt: HostRuntime) {
+    let alloc = rt.alloc();
+    assert!(rt; modules_have_faults(alloc));
+    assert!(rt; modules_have_faults_more(alloc));
 }
 
 fn row(
@@ -233,33 +277,40 @@ fn operand(m: &Rows, at: usize) -> Option<Val> {
     Some(*m.rows.get(at)?.operands.get(0)?)
 }
 
+/// Whether the only operand of the row at this place is this value.
+fn means(alloc: Global, text: &[u8], at: usize, value: Val) -> bool {
+    match rows_of(alloc, text) {
+        Some(m) => operand(&m, at) == Some(value),
+        None => false,
+    }
+}
+
+fn names_mean_the_innermost(alloc: Global) -> bool {
+    means(
+        alloc,
+        b"%x = \"t.a\"() : () -> i32\n\"t.b\"() ({\n%x = \"t.c\"() : () -> i32\n\"t.d\"(%x) : (i32) -> ()\n}) : () -> ()",
+        4,
+        Val::Res(3, 0),
+    ) && means(
+        alloc,
+        b"%x = \"t.a\"() : () -> i32\n\"t.b\"() ({\n%x = \"t.c\"() : () -> i32\n}) : () -> ()\n\"t.d\"(%x) : (i32) -> ()",
+        4,
+        Val::Res(1, 0),
+    ) && means(
+        alloc,
+        b"\"t.b\"() ({\n^b(%x : i32):\n\"t.c\"() ({\n\"t.d\"(%x) : (i32) -> ()\n}) : () -> ()\n}) : () -> ()",
+        3,
+        Val::Arg(1, 0, 0),
+    ) && means(
+        alloc,
+        b"\"builtin.module\"() ({\n%x = \"t.a\"() : () -> i32\n\"t.d\"(%x) : (i32) -> ()\n}) : () -> ()",
+        2,
+        Val::Res(1, 0),
+    )
+}
+
 #[test]
 fn names_in_sight(rt: HostRuntime) {
     let alloc = rt.alloc();
-    let texts: [(&[u8], usize, Val); 4] = [
-        (
-            b"%x = \"t.a\"() : () -> i32\n\"t.b\"() ({\n%x = \"t.c\"() : () -> i32\n\"t.d\"(%x) : (i32) -> ()\n}) : () -> ()",
-            4,
-            Val::Res(3, 0),
-        ),
-        (
-            b"%x = \"t.a\"() : () -> i32\n\"t.b\"() ({\n%x = \"t.c\"() : () -> i32\n}) : () -> ()\n\"t.d\"(%x) : (i32) -> ()",
-            4,
-            Val::Res(1, 0),
-        ),
-        (
-            b"\"t.b\"() ({\n^b(%x : i32):\n\"t.c\"() ({\n\"t.d\"(%x) : (i32) -> ()\n}) : () -> ()\n}) : () -> ()",
-            3,
-            Val::Arg(1, 0, 0),
-        ),
-        (
-            b"\"builtin.module\"() ({\n%x = \"t.a\"() : () -> i32\n\"t.d\"(%x) : (i32) -> ()\n}) : () -> ()",
-            2,
-            Val::Res(1, 0),
-        ),
-    ];
-    for (text, at, value) in texts {
-        let found = rows_of(alloc, text);
-        assert!(rt; matches!(&found, Some(m) if operand(m, at) == Some(value)));
-    }
+    assert!(rt; names_mean_the_innermost(alloc));
 }

@@ -7,3 +7,4 @@ pub mod Removal
 pub mod OrderLaws
 pub mod Nesting
 pub mod NestedByTest
+pub mod Places

@@ -35,21 +35,21 @@ keep_true stays r rows e = λ i. cond (e i) (r ∷ keep stays rows) (keep stays 
 keep_false : (stays : ℕ → Bool) (r : Row) (rows : List Row) → stays r.id ≡ false → keep stays (r ∷ rows) ≡ keep stays rows
 keep_false stays r rows e = λ i. cond (e i) (r ∷ keep stays rows) (keep stays rows)
 
-row_of-keep : (stays : ℕ → Bool) (rows : List Row) (u : ℕ) → stays u ≡ true → row_of (keep stays rows) u ≡ row_of rows u
+pub row_of-keep : (stays : ℕ → Bool) (rows : List Row) (u : ℕ) → stays u ≡ true → row_of (keep stays rows) u ≡ row_of rows u
 row_of-keep stays [] u kept = refl
 row_of-keep stays (r ∷ rows) u kept = elim (true_or_false (stays r.id)) [
   | inl e ↦ ap (λ l. row_of l u) (keep_true stays r rows e) ∙ (λ i. cond (r.id == u) (Some r) (row_of-keep stays rows u kept i))
   | inr e ↦ ap (λ l. row_of l u) (keep_false stays r rows e) ∙ (row_of-keep stays rows u kept ∙ (λ i. cond (sym (other_number stays r.id u e kept) i) (Some r) (row_of rows u)))
 ]
 
-has_row-keep : (stays : ℕ → Bool) (rows : List Row) (u : ℕ) → stays u ≡ true → has_row (keep stays rows) u ≡ has_row rows u
+pub has_row-keep : (stays : ℕ → Bool) (rows : List Row) (u : ℕ) → stays u ≡ true → has_row (keep stays rows) u ≡ has_row rows u
 has_row-keep stays [] u kept = refl
 has_row-keep stays (r ∷ rows) u kept = elim (true_or_false (stays r.id)) [
   | inl e ↦ ap (λ l. has_row l u) (keep_true stays r rows e) ∙ (λ i. (r.id == u) || has_row-keep stays rows u kept i)
   | inr e ↦ ap (λ l. has_row l u) (keep_false stays r rows e) ∙ (has_row-keep stays rows u kept ∙ (λ i. sym (other_number stays r.id u e kept) i || has_row rows u))
 ]
 
-is_earlier-keep : (stays : ℕ → Bool) (rows : List Row) (d u : ℕ) → stays d ≡ true → stays u ≡ true → is_earlier (keep stays rows) d u ≡ is_earlier rows d u
+pub is_earlier-keep : (stays : ℕ → Bool) (rows : List Row) (d u : ℕ) → stays d ≡ true → stays u ≡ true → is_earlier (keep stays rows) d u ≡ is_earlier rows d u
 is_earlier-keep stays [] d u p q = refl
 is_earlier-keep stays (r ∷ rows) d u p q = elim (true_or_false (stays r.id)) [
   | inl e ↦ ap (λ l. is_earlier l d u) (keep_true stays r rows e) ∙ (λ i. ((r.id == d) && has_row-keep stays rows u q i) || is_earlier-keep stays rows d u p q i)
@@ -124,7 +124,7 @@ distinct-reverse rows apart =
     flips : (x y : ℕ) → nat_eq x y ≡ nat_eq y x
     flips x y = grind (arith, nat_tests)
 
-enclosing-keep : (d : ℕ) (rows : List Row) (u : ℕ) → AreDistinct rows → is_removed rows d u ≡ false → enclosing (keep (λ n. not (is_removed rows d n)) rows) u ≡ enclosing rows u
+pub enclosing-keep : (d : ℕ) (rows : List Row) (u : ℕ) → AreDistinct rows → is_removed rows d u ≡ false → enclosing (keep (λ n. not (is_removed rows d n)) rows) u ≡ enclosing rows u
 unfolding enclosing
 enclosing-keep d rows u apart p =
     let stays : ℕ → Bool = λ n. not (is_gone d (reverse rows) n) in

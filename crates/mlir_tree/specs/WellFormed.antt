@@ -44,6 +44,10 @@ pub record AreNested (rows : List Row) : Type 0 where
   -- a row of an earlier region stands earlier
   pub by_region : (d g k u v : ℕ) → IsTrue (is_inside rows u (record { row = d; region = g })) → IsTrue (is_inside rows v (record { row = d; region = k })) → IsTrue (is_earlier rows u v) → g ≤ k
 
+-- Each row's number is above that of the row in which it stands, as in rows that are numbered in text order.
+abbrev pub HomesAreLower : List Row → Type 0
+HomesAreLower rows = All (λ r. IfSome r.home (λ h. h.row < r.id)) rows
+
 -- Each operand exists and is visible at its row.
 abbrev pub HasVisibleOperands : List Row → Row → Type 0
 HasVisibleOperands rows r = All (λ v. IsVisible rows v r.id) r.operands

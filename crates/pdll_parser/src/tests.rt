@@ -18,62 +18,97 @@ fn fault_of(alloc: Global, text: &[u8]) -> Option<PatFault> {
     }
 }
 
-#[test]
-fn the_first_fault_has_its_kind_and_place(rt: HostRuntime) {
-    let rows: [(&[u8], PatKind, usize); 37] = [
-        (b"Pattern A {", PatKind::Syntax, 11),
-        (b"Rewrite R() [{ x }];", PatKind::CppBody, 12),
-        (b"Pattern A { f([{ x }]); }", PatKind::CppBody, 14),
-        (b"#include \"a\"", PatKind::Include, 0),
-        (b"Pattern A { #include \"a\"", PatKind::Include, 12),
-        (
+fn has_fault(alloc: Global, text: &[u8], kind: PatKind, at: usize) -> bool {
+    fault_of(alloc, text) == Some(PatFault { kind, at })
+}
+
+fn files_have_faults(alloc: Global) -> bool {
+    has_fault(alloc, b"Pattern A {", PatKind::Syntax, 11)
+        && has_fault(alloc, b"Rewrite R() [{ x }];", PatKind::CppBody, 12)
+        && has_fault(alloc, b"Pattern A { f([{ x }]); }", PatKind::CppBody, 14)
+        && has_fault(alloc, b"#include \"a\"", PatKind::Include, 0)
+        && has_fault(alloc, b"Pattern A { #include \"a\"", PatKind::Include, 12)
+        && has_fault(
+            alloc,
             b"Pattern A with benefit(65535) => erase op<t.a>;",
             PatKind::BenefitRange,
             23,
-        ),
-        (
+        )
+        && has_fault(
+            alloc,
             b"Pattern A with benefit(70000000000000000000000) => x;",
             PatKind::BenefitRange,
             23,
-        ),
-        (b"Pattern A => erase op<t.a>", PatKind::Syntax, 26),
-        (b"Pattern A => \xff", PatKind::NotUtf8, 13),
-        (b"% \xc3(", PatKind::NotUtf8, 2),
-        (b"Pattern A => erase x ? ;", PatKind::BadByte, 21),
-        (b"// x\n -", PatKind::BadByte, 6),
-        (b"Pattern A => f(attr<\"x>);", PatKind::BadString, 20),
-        (b"Pattern A => f(attr<\"\\q\">);", PatKind::BadString, 20),
-        (b"Pattern erase ? ", PatKind::Syntax, 8),
-        (b"Pattern A { erase op<t.a> }", PatKind::Syntax, 26),
-        (b"Pattern A { erase x; } }", PatKind::Syntax, 23),
-        (b"Pattern A { rewrite x with { } }", PatKind::Syntax, 31),
-        (b"Constraint C(v: Value) \n", PatKind::Syntax, 24),
-        (b"Pattern A { let with = x; }", PatKind::Syntax, 16),
-        (b"Rewrite Value();", PatKind::Syntax, 8),
-        (b"Pattern A { f(let); }", PatKind::Syntax, 14),
-        (b"Pattern A { attr<x>; }", PatKind::Syntax, 17),
-        (b"Pattern A { let op = x; op<op, x>; }", PatKind::Syntax, 29),
-        (b"Pattern A { let x: attr<\"y\">; }", PatKind::Syntax, 23),
-        (b"Pattern A { e.x; }", PatKind::Syntax, 14),
-        (b"Pattern A { e.0.; }", PatKind::Syntax, 16),
-        (b"Constraint C(v: Value,);", PatKind::Syntax, 22),
-        (b"Constraint C(v);", PatKind::Syntax, 14),
-        (b"Pattern A with => x;", PatKind::Syntax, 15),
-        (b"Pattern A with benefit => x;", PatKind::Syntax, 23),
-        (b"Pattern A with benefit(x) => y;", PatKind::Syntax, 23),
-        (b"Pattern A;", PatKind::Syntax, 9),
-        (b"Pattern A { ; }", PatKind::Syntax, 12),
-        (b"Rewrite R() -> C;", PatKind::Syntax, 15),
-        (b"Constraint C() -> Value;", PatKind::Syntax, 15),
-        (b"op<t.a>;", PatKind::Syntax, 0),
-    ];
-    for (text, kind, at) in rows {
-        assert_eq!(rt;
-            fault_of(rt.alloc(), text),
-            Some(PatFault { kind, at }),
-            "for {kind:?} at {at}"
-        );
-    }
+        )
+        && has_fault(alloc, b"Pattern A => erase op<t.a>", PatKind::Syntax, 26)
+        && has_fault(alloc, b"Pattern A => \xff", PatKind::NotUtf8, 13)
+        && has_fault(alloc, b"% \xc3(", PatKind::NotUtf8, 2)
+        && has_fault(alloc, b"Pattern A => erase x ? ;", PatKind::BadByte, 21)
+        && has_fault(alloc, b"// x\n -", PatKind::BadByte, 6)
+        && has_fault(alloc, b"Pattern A => f(attr<\"x>);", PatKind::BadString, 20)
+        && has_fault(
+            alloc,
+            b"Pattern A => f(attr<\"\\q\">);",
+            PatKind::BadString,
+            20,
+        )
+        && has_fault(alloc, b"Pattern erase ? ", PatKind::Syntax, 8)
+        && has_fault(alloc, b"Pattern A { erase op<t.a> }", PatKind::Syntax, 26)
+}
+
+fn files_have_faults_more(alloc: Global) -> bool {
+    has_fault(alloc, b"Pattern A { erase x; } }", PatKind::Syntax, 23)
+        && has_fault(
+            alloc,
+            b"Pattern A { rewrite x with { } }",
+            PatKind::Syntax,
+            31,
+        )
+        && has_fault(alloc, b"Constraint C(v: Value) \n", PatKind::Syntax, 24)
+        && has_fault(alloc, b"Pattern A { let with = x; }", PatKind::Syntax, 16)
+        && has_fault(alloc, b"Rewrite Value();", PatKind::Syntax, 8)
+        && has_fault(alloc, b"Pattern A { f(let); }", PatKind::Syntax, 14)
+        && has_fault(alloc, b"Pattern A { attr<x>; }", PatKind::Syntax, 17)
+        && has_fault(
+            alloc,
+            b"Pattern A { let op = x; op<op, x>; }",
+            PatKind::Syntax,
+            29,
+        )
+        && has_fault(
+            alloc,
+            b"Pattern A { let x: attr<\"y\">; }",
+            PatKind::Syntax,
+            23,
+        )
+        && has_fault(alloc, b"Pattern A { e.x; }", PatKind::Syntax, 14)
+        && has_fault(alloc, b"Pattern A { e.0.; }", PatKind::Syntax, 16)
+        && has_fault(alloc, b"Constraint C(v: Value,);", PatKind::Syntax, 22)
+        && has_fault(alloc, b"Constraint C(v);", PatKind::Syntax, 14)
+        && has_fault(alloc, b"Pattern A with => x;", PatKind::Syntax, 15)
+        && has_fault(alloc, b"Pattern A with benefit => x;", PatKind::Syntax, 23)
+        && has_fault(
+            alloc,
+            b"Pattern A with benefit(x) => y;",
+            PatKind::Syntax,
+            23,
+        )
+}
+
+fn files_have_faults_last(alloc: Global) -> bool {
+    has_fault(alloc, b"Pattern A;", PatKind::Syntax, 9)
+        && has_fault(alloc, b"Pattern A { ; }", PatKind::Syntax, 12)
+        && has_fault(alloc, b"Rewrite R() -> C;", PatKind::Syntax, 15)
+        && has_fault(alloc, b"Constraint C() -> Value;", PatKind::Syntax, 15)
+        && has_fault(alloc, b"op<t.a>;", PatKind::Syntax, 0)
+}
+
+#[test]
+fn the_first_fault_has_its_kind_and_place(rt: HostRuntime) {
+    let alloc = rt.alloc();
+    assert!(rt; files_have_faults(alloc));
+    assert!(rt; files_have_faults_more(alloc));
+    assert!(rt; files_have_faults_last(alloc));
 }
 
 // `front`, so many times `part`, and `back`
@@ -148,132 +183,162 @@ fn benefits(metas: &[Meta]) -> u64 {
     sum
 }
 
-#[test]
-fn pattern_files_are_read(rt: HostRuntime) -> Result<(), Fail> {
-    let rows: [(&[u8], usize, &[u8], u64); 22] = [
-        (
-            b"Pattern ReshapeReshape {\n  let inner = op<t.reshape>(x: Value);\n  let root = op<t.reshape>(inner);\n  replace root with op<t.reshape>(x);\n}\n",
-            1,
-            b"ReshapeReshape ",
-            0,
-        ),
-        (
-            b"Pattern Low => erase op<t.a>;\nPattern High with benefit(10) { let r = op<t.a>; rewrite r with { op<t.b> -> (); erase r; }; }\n",
-            2,
-            b"Low High ",
-            10,
-        ),
-        (
-            b"Pattern Low => erase op<t.a>;\nPattern High with benefit(1) { let r = op<t.a>; rewrite r with { op<t.b> -> (); erase r; }; }\n",
-            2,
-            b"Low High ",
-            1,
-        ),
-        (
-            b"Pattern Same => replace op<t.sub>(x: Value, x) with op<t.zero>;\n",
-            1,
-            b"Same ",
-            0,
-        ),
-        (
-            b"Pattern Self { let root = op<t.a>; replace root with op<t.x>(root.0); }\n",
-            1,
-            b"Self ",
-            0,
-        ),
-        (
-            b"Pattern Swap { let inner = op<t.a>; let root = op<t.b>(inner); rewrite root with { replace inner with op<t.c>; }; }\n",
-            1,
-            b"Swap ",
-            0,
-        ),
-        (
-            b"Pattern Two { let x = op<t.a>; let y = op<t.a>; let root = op<t.b>(x, y); rewrite root with { erase root; erase x; erase y; }; }\n",
-            1,
-            b"Two ",
-            0,
-        ),
-        (b"Pattern => erase op<builtin.module>;\n", 1, b" ", 0),
-        (
+// Whether the file declares so many names, and these, with this sum of benefits.
+fn declares(alloc: Global, text: &[u8], count: usize, names: &[u8], sum: u64) -> bool {
+    let Ok(file) = parse_patterns(alloc, text) else {
+        return false;
+    };
+    match declared(alloc, &file) {
+        Ok(found) => { file.decls.len() == count && found.0.as_slice() == names && found.1 == sum }
+        Err(_) => false,
+    }
+}
+
+fn files_declare(alloc: Global) -> bool {
+    declares(
+        alloc,
+        b"Pattern ReshapeReshape {\n  let inner = op<t.reshape>(x: Value);\n  let root = op<t.reshape>(inner);\n  replace root with op<t.reshape>(x);\n}\n",
+        1,
+        b"ReshapeReshape ",
+        0,
+    ) && declares(
+        alloc,
+        b"Pattern Low => erase op<t.a>;\nPattern High with benefit(10) { let r = op<t.a>; rewrite r with { op<t.b> -> (); erase r; }; }\n",
+        2,
+        b"Low High ",
+        10,
+    ) && declares(
+        alloc,
+        b"Pattern Low => erase op<t.a>;\nPattern High with benefit(1) { let r = op<t.a>; rewrite r with { op<t.b> -> (); erase r; }; }\n",
+        2,
+        b"Low High ",
+        1,
+    ) && declares(
+        alloc,
+        b"Pattern Same => replace op<t.sub>(x: Value, x) with op<t.zero>;\n",
+        1,
+        b"Same ",
+        0,
+    ) && declares(
+        alloc,
+        b"Pattern Self { let root = op<t.a>; replace root with op<t.x>(root.0); }\n",
+        1,
+        b"Self ",
+        0,
+    ) && declares(
+        alloc,
+        b"Pattern Swap { let inner = op<t.a>; let root = op<t.b>(inner); rewrite root with { replace inner with op<t.c>; }; }\n",
+        1,
+        b"Swap ",
+        0,
+    ) && declares(
+        alloc,
+        b"Pattern Two { let x = op<t.a>; let y = op<t.a>; let root = op<t.b>(x, y); rewrite root with { erase root; erase x; erase y; }; }\n",
+        1,
+        b"Two ",
+        0,
+    ) && declares(alloc, b"Pattern => erase op<builtin.module>;\n", 1, b" ", 0)
+        && declares(
+            alloc,
             b"Pattern Idle { let root = op<t.a>; rewrite root with { }; }\n",
             1,
             b"Idle ",
             0,
-        ),
-        (
+        )
+        && declares(
+            alloc,
             b"Constraint HasOneUse(v: Value);\nPattern Fuse {\n  let a = op<t.a>;\n  let b = op<t.b>(a);\n  let root = op<t.c>(b);\n  HasOneUse(a.0);\n  replace root with op<t.abc>;\n}\nPattern Drop => erase op<t.dead>;\n",
             3,
             b"HasOneUse Fuse Drop ",
             0,
-        ),
-        (
+        )
+        && declares(
+            alloc,
             b"Pattern A => erase op<t.a>(x: Value);\nPattern B => erase op<t.a>(op<t.b>);\nPattern C => erase op<t.c>;\n",
             3,
             b"A B C ",
             0,
-        ),
-        (
+        )
+        && declares(
+            alloc,
             b"Pattern R => replace op<t.a> with op<t.b>;\nPattern E => erase op<t.r>;\n",
             2,
             b"R E ",
             0,
-        ),
-        (
+        )
+        && declares(
+            alloc,
             b"Constraint IsInt(a: Attr);\nRewrite AddInt(a: Attr, b: Attr) -> Attr;\nPattern Fold {\n  let x = op<t.const> {value = a: Attr};\n  let y = op<t.const> {value = b: Attr};\n  let root = op<t.add>(x, y);\n  IsInt(a);\n  IsInt(b);\n  replace root with op<t.const> {value = AddInt(a, b)};\n}\n",
             3,
             b"IsInt AddInt Fold ",
             0,
-        ),
-        (
+        )
+        && declares(
+            alloc,
             b"Pattern A with benefit(65534) => erase op<t.a>;",
             1,
             b"A ",
             65534,
-        ),
-        (b"Pattern A with benefit(0) => erase op<t.a>;", 1, b"A ", 0),
-        (b"Pattern with recursion, benefit(007) => x;", 1, b" ", 7),
-        (
-            b"Pattern benefit with benefit(3) => recursion;",
+        )
+        && declares(
+            alloc,
+            b"Pattern A with benefit(0) => erase op<t.a>;",
             1,
-            b"benefit ",
-            3,
-        ),
-        (b" // nothing\n", 0, b"", 0),
-        (
+            b"A ",
+            0,
+        )
+        && declares(
+            alloc,
+            b"Pattern with recursion, benefit(007) => x;",
+            1,
+            b" ",
+            7,
+        )
+}
+
+fn files_declare_more(alloc: Global) -> bool {
+    declares(
+        alloc,
+        b"Pattern benefit with benefit(3) => recursion;",
+        1,
+        b"benefit ",
+        3,
+    ) && declares(alloc, b" // nothing\n", 0, b"", 0)
+        && declares(
+            alloc,
             b"Constraint C(a: [Attr<x>, D], o: Op<t.let>, t: Type) { C(a); D(); }",
             1,
             b"C ",
             0,
-        ),
-        (
+        )
+        && declares(
+            alloc,
             b"Constraint type(s: TypeRange, v: Value<t>, w: ValueRange<s>) => x;",
             1,
             b"type ",
             0,
-        ),
-        (
+        )
+        && declares(
+            alloc,
             b"Rewrite R(o: Op, w: ValueRange) -> Value<t> => op<t.a>(o) {x, \"y\" = z} -> (t).0;",
             1,
             b"R ",
             0,
-        ),
-        (
+        )
+        && declares(
+            alloc,
             b"Pattern { let x: Value = y; return x; replace x with (); replace x with (y, z); }",
             1,
             b" ",
             0,
-        ),
-    ];
-    for (text, count, names, sum) in rows {
-        let Ok(file) = parse_patterns(rt.alloc(), text) else {
-            panic!(rt; "refused: {count} declarations");
-        };
-        let found = declared(rt.alloc(), &file)?;
-        assert_eq!(rt; file.decls.len(), count);
-        assert!(rt; found.0.as_slice() == names);
-        assert_eq!(rt; found.1, sum);
-    }
-    Ok(())
+        )
+}
+
+#[test]
+fn pattern_files_are_read(rt: HostRuntime) {
+    let alloc = rt.alloc();
+    assert!(rt; files_declare(alloc));
+    assert!(rt; files_declare_more(alloc));
 }
 
 fn text(alloc: Global, bytes: &[u8]) -> Result<Text, AllocError> {

@@ -7,11 +7,16 @@ use Rattle.std.proofs.lemmas.Slice.Eq.{bytes_eq-Decides}
 use Rattle.std.proofs.lemmas.Bool.{false≢true}
 use Rattle.pdllrw.specs.Patterns.{Erasing}
 use Rattle.pdllrw.specs.declared.driver.Hit.{Hit}
-use Rattle.pdllrw.specs.declared.driver.Ending.TheVariants.{Converged, Bound}
-use Rattle.pdllrw.specs.NamedRows.{NamedRow, removed}
-use Rattle.pdllrw.specs.Run.{best, first_hit, stopped, after_step, run, Matches, NoneMatches}
+use Rattle.pdllrw.specs.declared.driver.Ending.TheVariants.{Converged, Bound, Broken}
+use Rattle.mlir_tree.specs.declared.row.Row.{Row}
+use Rattle.mlir_tree.specs.declared.rows.Rows.{Rows}
+use Rattle.mlir_tree.specs.declared.bad_use.BadUse.{BadUse}
+use Rattle.mlir_tree.specs.Edits.{removed}
+use Rattle.mlir_resolve.specs.BadUses.{bad_use}
+use Rattle.pdllrw.specs.Run.{best, first_hit, stopped, judged, run, Matches, NoneMatches}
+use Rattle.pdllrw.specs.Laws.{ConvergedRunsLeaveNone}
 
-none_here : (ps : List Erasing) (i : ℕ) (r : NamedRow) → position_from (λ p. bytes_eq p.op r.name) i ps ≡ None → AllByRecursion (λ p. Matches p r → ⊥) ps
+none_here : (ps : List Erasing) (i : ℕ) (r : Row) → position_from (λ p. bytes_eq p.op r.name) i ps ≡ None → AllByRecursion (λ p. Matches p r → ⊥) ps
 none_here [] i r none = tt
 none_here (p ∷ ps) i r none = go (none_here ps (i + 1) r) (bytes_eq p.op r.name) refl none
   where
@@ -20,7 +25,7 @@ none_here (p ∷ ps) i r none = go (none_here ps (i + 1) r) (bytes_eq p.op r.nam
     go rest true e none = absurd cc
     go rest false e none = (λ same. false≢true (sym e ∙ (bytes_eq-Decides p.op r.name).1 same), rest none)
 
-none_anywhere : (ps : List Erasing) (rows : List NamedRow) → first_hit ps rows ≡ None → NoneMatches ps rows
+none_anywhere : (ps : List Erasing) (rows : List Row) → first_hit ps rows ≡ None → NoneMatches ps rows
 none_anywhere ps [] none = tt
 none_anywhere ps (r ∷ rows) none = go (none_anywhere ps rows) (best ps r.name) refl none
   where
@@ -29,18 +34,23 @@ none_anywhere ps (r ∷ rows) none = go (none_anywhere ps rows) (best ps r.name)
     go rest None e none = (none_here ps 0 r e, rest none)
     go rest (Some k) e none = absurd cc
 
-pub converged : (n : ℕ) (ps : List Erasing) (rows : List NamedRow) → (run n ps rows).ending ≡ Converged → NoneMatches ps (run n ps rows).rows
+pub converged : ConvergedRunsLeaveNone
 unfolding run
-converged zero ps rows e = go (first_hit ps rows) refl e
+converged zero ps m e = go (first_hit ps m.rows) refl e
   where
-    go : (o : Option Hit) → first_hit ps rows ≡ o → (option_map_or (λ h. stopped (Bound h) rows) o (stopped Converged rows)).ending ≡ Converged
-        → NoneMatches ps (option_map_or (λ h. stopped (Bound h) rows) o (stopped Converged rows)).rows
-    go None f e = none_anywhere ps rows f
+    go : (o : Option Hit) → first_hit ps m.rows ≡ o → (option_map_or (λ h. stopped (Bound h) m) o (stopped Converged m)).ending ≡ Converged
+        → NoneMatches ps (option_map_or (λ h. stopped (Bound h) m) o (stopped Converged m)).left.rows
+    go None f e = none_anywhere ps m.rows f
     go (Some h) f e = absurd cc
-converged (suc n) ps rows e = go (λ h. converged n ps (removed h.root rows)) (first_hit ps rows) refl e
+converged (suc n) ps m e = go (λ h. converged n ps (removed h.root m)) (first_hit ps m.rows) refl e
   where
-    go : ((h : Hit) → (run n ps (removed h.root rows)).ending ≡ Converged → NoneMatches ps (run n ps (removed h.root rows)).rows) → (o : Option Hit) → first_hit ps rows ≡ o
-        → (option_map_or (λ h. after_step h (run n ps (removed h.root rows))) o (stopped Converged rows)).ending ≡ Converged
-        → NoneMatches ps (option_map_or (λ h. after_step h (run n ps (removed h.root rows))) o (stopped Converged rows)).rows
-    go later None f e = none_anywhere ps rows f
-    go later (Some h) f e = later h e
+    by_use : (h : Hit) → ((run n ps (removed h.root m)).ending ≡ Converged → NoneMatches ps (run n ps (removed h.root m)).left.rows) → (u : Option BadUse)
+        → (judged h m u (run n ps (removed h.root m))).ending ≡ Converged → NoneMatches ps (judged h m u (run n ps (removed h.root m))).left.rows
+    by_use h later None e = later e
+    by_use h later (Some u) e = absurd cc
+
+    go : ((h : Hit) → (run n ps (removed h.root m)).ending ≡ Converged → NoneMatches ps (run n ps (removed h.root m)).left.rows) → (o : Option Hit) → first_hit ps m.rows ≡ o
+        → (option_map_or (λ h. judged h m (bad_use (removed h.root m).rows) (run n ps (removed h.root m))) o (stopped Converged m)).ending ≡ Converged
+        → NoneMatches ps (option_map_or (λ h. judged h m (bad_use (removed h.root m).rows) (run n ps (removed h.root m))) o (stopped Converged m)).left.rows
+    go later None f e = none_anywhere ps m.rows f
+    go later (Some h) f e = by_use h (later h) (bad_use (removed h.root m).rows) e

@@ -6,4 +6,3 @@ pub mod Refusals
 pub mod Built
 pub mod Gathered
 pub mod Lines
-pub mod Names

@@ -25,14 +25,13 @@ pub puts_placed : {A E : Type 0} (old new : SinkState) (r : Result A E) (p : Pos
     → Puts old new r (placed_line (codes "patterns") p code) → Puts old new r (patterns_line p k)
 puts_placed old new r p k code h l is put = subst (Puts old new r) (ap (placed_line (codes "patterns") p) is ∙ placed p k h l) put
 
-placed_in_module : (p : Position) (k : ModKind) → k ≢ mod_kinds.TooLong → k ≢ mod_kinds.NotBuilt → placed_line (codes "module") p (module_faults.code_text k) ≡ module_line p k
-placed_in_module p mod_kinds.TooLong h l = absurd (h refl)
-placed_in_module p mod_kinds.NotBuilt h l = absurd (l refl)
-placed_in_module p k h l = refl
+placed_in_module : (p : Position) (k : ModKind) → k ≢ mod_kinds.TooLong → placed_line (codes "module") p (module_faults.code_text k) ≡ module_line p k
+placed_in_module p mod_kinds.TooLong h = absurd (h refl)
+placed_in_module p k h = refl
 
-pub puts_placed_in_module : {A E : Type 0} (old new : SinkState) (r : Result A E) (p : Position) (k : ModKind) (code : List ℕ) → k ≢ mod_kinds.TooLong → k ≢ mod_kinds.NotBuilt → code ≡ module_faults.code_text k
+pub puts_placed_in_module : {A E : Type 0} (old new : SinkState) (r : Result A E) (p : Position) (k : ModKind) (code : List ℕ) → k ≢ mod_kinds.TooLong → code ≡ module_faults.code_text k
     → Puts old new r (placed_line (codes "module") p code) → Puts old new r (module_line p k)
-puts_placed_in_module old new r p k code h l is put = subst (Puts old new r) (ap (placed_line (codes "module") p) is ∙ placed_in_module p k h l) put
+puts_placed_in_module old new r p k code h is put = subst (Puts old new r) (ap (placed_line (codes "module") p) is ∙ placed_in_module p k h) put
 
 -- without memory there is no line
 pub tells_nothing : (p : Position) (s : Status) (state : SinkState) → s ≡ statuses.NoMemory → Tells state state (line_of p s) s statuses.NoMemory

@@ -29,6 +29,7 @@ module _ (old new : Outside) (words : List (List ℕ)) where
   answer_of p statuses.ReadFault cause = (p, cause, refl, refl)
   answer_of p statuses.Done cause = absurd cause
   answer_of p (statuses.Bound k) cause = absurd cause
+  answer_of p (statuses.Broken b) cause = absurd cause
   answer_of p statuses.WriteFault cause = absurd cause
   answer_of p statuses.NoMemory cause = absurd cause
 
@@ -39,6 +40,7 @@ module _ (old new : Outside) (words : List (List ℕ)) where
   written_of p statuses.ReadFault cause w = w
   written_of p statuses.Done cause w = absurd cause
   written_of p (statuses.Bound k) cause w = absurd cause
+  written_of p (statuses.Broken b) cause w = absurd cause
   written_of p statuses.WriteFault cause w = absurd cause
   written_of p statuses.NoMemory cause w = absurd cause
 
@@ -73,6 +75,7 @@ module _ (old new : Outside) (words : List (List ℕ)) where
   patterns_stop command p statuses.NoMemory stops = inr refl
   patterns_stop command p statuses.Done stops = absurd stops
   patterns_stop command p (statuses.Bound k) stops = absurd stops
+  patterns_stop command p (statuses.Broken b) stops = absurd stops
   patterns_stop command p statuses.Usage stops = absurd stops
   patterns_stop command p (statuses.ModuleFault f) stops = absurd stops
   patterns_stop command p statuses.WriteFault stops = absurd stops
@@ -84,6 +87,7 @@ module _ (old new : Outside) (words : List (List ℕ)) where
   module_stops command patterns are p statuses.NoMemory stops = inr refl
   module_stops command patterns are p statuses.Done stops = absurd stops
   module_stops command patterns are p (statuses.Bound k) stops = absurd stops
+  module_stops command patterns are p (statuses.Broken b) stops = absurd stops
   module_stops command patterns are p statuses.Usage stops = absurd stops
   module_stops command patterns are p (statuses.PatternFault f) stops = absurd stops
   module_stops command patterns are p statuses.WriteFault stops = absurd stops
@@ -98,10 +102,12 @@ module _ (old new : Outside) (words : List (List ℕ)) where
   pub rewritten : (e : Ending) (out log : List ℕ) → Rewrites old.files words e out log → IsAnswer old new words (kind_of_ending e) out log
   rewritten endings.Converged out log r = r
   rewritten (endings.Bound h) out log r = (h, r)
+  rewritten (endings.Broken b) out log r = r
 
   shown_outcome : (e : Ending) → IsWritten old new words (kind_of_ending e) → IsOutcome old new words (kind_of_ending e)
   shown_outcome endings.Converged w = w
   shown_outcome (endings.Bound h) w = w
+  shown_outcome (endings.Broken b) w = w
 
   pub shown : (e : Ending) (out log : List ℕ) (result : Status) → Rewrites old.files words e out log
       → Shows old.out new.out old.log new.log out log (kind_of_ending e) result → IsOutcome old new words result
@@ -119,6 +125,7 @@ stops_since file file' f f1 f2 p statuses.ReadFault same le stops = rises f f1 f
 stops_since file file' f f1 f2 p statuses.NoMemory same le stops = tt
 stops_since file file' f f1 f2 p statuses.Done same le stops = absurd stops
 stops_since file file' f f1 f2 p (statuses.Bound k) same le stops = absurd stops
+stops_since file file' f f1 f2 p (statuses.Broken b) same le stops = absurd stops
 stops_since file file' f f1 f2 p statuses.Usage same le stops = absurd stops
 stops_since file file' f f1 f2 p (statuses.PatternFault e) same le stops = absurd stops
 stops_since file file' f f1 f2 p statuses.WriteFault same le stops = absurd stops

@@ -1,11 +1,12 @@
 -- Which files are accepted.
-use Rattle.std.specs.Prelude.{◌≡◌, ◌≤◌, ℕ, List, length, Some}
+use Rattle.std.specs.Prelude.{◌≡◌, ◌≤◌, ℕ, List, length, Some, Ok}
 use Rattle.pdll_syntax.specs.declared.file.PatFile.{PatFile}
 use Rattle.pdll_parser.specs.FileGrammar.{IsPatternFile}
 use Rattle.pdllrw.specs.Patterns.{Erasing, built}
 use Rattle.mlir_parse.specs.declared.syn.Syn.{Syn}
 use Rattle.mlir_parse.specs.FileGrammar.{IsModuleFile}
-use Rattle.pdllrw.specs.Modules as modules
+use Rattle.mlir_tree.specs.declared.rows.Rows.{Rows}
+use Rattle.mlir_resolve.specs.Resolving.{resolved}
 
 -- the bytes are not too many, and spell a pattern file, all of whose patterns are built
 pub record AcceptsPatterns (ps : List Erasing) (bytes : List ℕ) : Type 0 where
@@ -14,9 +15,9 @@ pub record AcceptsPatterns (ps : List Erasing) (bytes : List ℕ) : Type 0 where
   pub spelled : IsPatternFile bytes file
   pub are_built : built file ≡ Some ps
 
--- the bytes are not too many, and spell a module file, whose operations have these names alone
-pub record AcceptsModule (names : List (List ℕ)) (bytes : List ℕ) : Type 0 where
+-- the bytes are not too many, and spell a module file, of which these are the rows
+pub record AcceptsModule (m : Rows) (bytes : List ℕ) : Type 0 where
   pub short : length bytes ≤ 67108864
   pub file : Syn
   pub spelled : IsModuleFile bytes file
-  pub are_built : modules.built file ≡ Some names
+  pub resolves : resolved file ≡ Ok m

@@ -1,6 +1,7 @@
 -- When the command succeeds.
 use Rattle.std.specs.Prelude.{◌≡◌, ℕ, List, Some}
 use Rattle.rw_outside.specs.Outside.{Rose}
+use Rattle.mlir_tree.specs.declared.rows.Rows.{Rows}
 use Rattle.pdllrw.specs.Patterns.{Erasing}
 use Rattle.pdllrw.specs.Accepted.{AcceptsPatterns, AcceptsModule}
 use Rattle.pdllrw.specs.declared.status.Status.{Status}
@@ -16,8 +17,8 @@ pub record GoesWell (old new : Outside) (words : List (List ℕ)) : Type 0 where
   pub are_patterns : AcceptsPatterns patterns pattern_bytes
   pub module_bytes : List ℕ
   pub module_told : old.files command.module_file ≡ Some module_bytes
-  pub names : List (List ℕ)
-  pub is_module : AcceptsModule names module_bytes
+  pub rows : Rows
+  pub is_module : AcceptsModule rows module_bytes
   pub patterns_count : Rose (old.faults command.patterns) (new.faults command.patterns) → ⊥
   pub module_count : Rose (old.faults command.module_file) (new.faults command.module_file) → ⊥
   pub out_count : Rose old.out.faults new.out.faults → ⊥
@@ -26,5 +27,6 @@ pub record GoesWell (old new : Outside) (words : List (List ℕ)) : Type 0 where
 abbrev pub Succeeds : Status → Type 0
 Succeeds statuses.Done = Unit {0}
 Succeeds (statuses.Bound k) = Unit {0}
+Succeeds (statuses.Broken b) = Unit {0}
 Succeeds statuses.NoMemory = Unit {0}
 Succeeds status = ⊥

@@ -1,9 +1,9 @@
 pub mod Patterns
 pub mod Positions
-pub mod Modules
-pub mod NamedRows
 pub mod Run
+pub mod Laws
 pub mod View
+pub mod Steps
 pub mod Texts
 pub mod Words
 pub mod Accepted

@@ -1,5 +1,5 @@
 -- What the program answers, by its words and its files.
-use Rattle.std.specs.Prelude.{◌≡◌, ◌<◌, ◌≤◌, ◌⊎◌, ℕ, true, List, [], ◌∷◌, length, codes, decimal, Option, Some, None, IfSome}
+use Rattle.std.specs.Prelude.{◌≡◌, ◌<◌, ◌≤◌, ◌⊎◌, ℕ, true, List, [], ◌∷◌, length, codes, decimal, Option, Some, None, Err, IfSome}
 use Rattle.std.specs.List.{concat}
 use Rattle.rw_outside.specs.Outside.{Rose, appended, PutsFront}
 use Rattle.rw_outside.specs.Puts.{SinkState}
@@ -19,8 +19,9 @@ use Rattle.mlir_parse.specs.Faults as module_faults
 use Rattle.mlir_parse.specs.declared.fault.ModFault.{ModFault}
 use Rattle.mlir_parse.specs.declared.fault.ModKind.{ModKind}
 use Rattle.mlir_parse.specs.declared.fault.ModKind.TheVariants as mod_kinds
-use Rattle.pdllrw.specs.Modules as modules
-use Rattle.pdllrw.specs.NamedRows.{rows_of}
+use Rattle.mlir_tree.specs.declared.rows.Rows.{Rows}
+use Rattle.mlir_resolve.specs.Resolving.{resolved}
+use Rattle.mlir_print.specs.ModuleText.{module_text}
 use Rattle.pdllrw.specs.Run.{run}
 use Rattle.pdllrw.specs.declared.driver.Hit.{Hit}
 use Rattle.pdllrw.specs.declared.driver.Ending.{Ending}
@@ -29,7 +30,7 @@ use Rattle.pdllrw.specs.declared.status.Status.{Status}
 use Rattle.pdllrw.specs.declared.status.Status.TheVariants as statuses
 use Rattle.pdllrw.specs.declared.status.BoundKind.TheVariants as bounds
 use Rattle.pdllrw.specs.Accepted.{AcceptsPatterns, AcceptsModule}
-use Rattle.pdllrw.specs.Texts.{module_text, log_text}
+use Rattle.pdllrw.specs.Texts.{log_text}
 use Rattle.pdllrw.specs.Words.{command_of}
 
 -- what is outside at one moment: the files and their counts of faults, and the two sinks
@@ -66,13 +67,22 @@ pub record IsNoModule (p : Position) (kind : ModKind) (at : ℕ) (bytes : List �
   pub within : at ≤ length bytes
   pub place : p ≡ position_of bytes at
 
-abbrev pub RefusesModuleAs : Position → ModKind → ℕ → List ℕ → Type 0
-RefusesModuleAs p mod_kinds.TooLong at bytes = (67108864 < length bytes) × (at ≡ 67108864)
-RefusesModuleAs p mod_kinds.NotBuilt at bytes = (at ≡ 0) × (length bytes ≤ 67108864) × (file : Syn) × IsModuleFile bytes file × (modules.built file ≡ None)
-RefusesModuleAs p kind at bytes = IsNoModule p kind at bytes
+-- The file is spelled, and this is the first fault of its names, counts, types and dictionaries.
+pub record IsUnresolved (p : Position) (kind : ModKind) (at : ℕ) (bytes : List ℕ) : Type 0 where
+  pub short : length bytes ≤ 67108864
+  pub file : Syn
+  pub spelled : IsModuleFile bytes file
+  pub fault : resolved file ≡ Err (record { kind = kind; at = at })
+  pub place : p ≡ position_of bytes at
+
+-- The file has too many bytes.
+pub record IsTooLong (f : ModFault) (bytes : List ℕ) : Type 0 where
+  pub is_kind : f.kind ≡ mod_kinds.TooLong
+  pub place : f.at ≡ 67108864
+  pub long : 67108864 < length bytes
 
 abbrev pub RefusesModule : Position → ModFault → List ℕ → Type 0
-RefusesModule p f bytes = RefusesModuleAs p f.kind f.at bytes
+RefusesModule p f bytes = IsTooLong f bytes ⊎ (IsNoModule p f.kind f.at bytes ⊎ IsUnresolved p f.kind f.at bytes)
 
 -- a line and a column, and what is wrong there
 abbrev pub placed_line : List ℕ → Position → List ℕ → List ℕ
@@ -85,7 +95,6 @@ patterns_line p kind = placed_line (codes "patterns") p (code_text kind)
 
 abbrev pub module_line : Position → ModKind → List ℕ
 module_line p mod_kinds.TooLong = codes "pdllrw: module: M1 TooLong\n"
-module_line p mod_kinds.NotBuilt = codes "pdllrw: module: M0 NotBuilt\n"
 module_line p kind = placed_line (codes "module") p (module_faults.code_text kind)
 
 -- the line of a refusal that names no place of a file
@@ -113,11 +122,11 @@ pub record Rewrites (files : List ℕ → Option (List ℕ)) (words : List (List
   pub command : Command words
   pub patterns : List Erasing
   pub are_patterns : IfSome (files command.patterns) (AcceptsPatterns patterns)
-  pub names : List (List ℕ)
-  pub is_module : IfSome (files command.module_file) (AcceptsModule names)
-  pub ends : (run 10000 patterns (rows_of names)).ending ≡ ending
-  pub out_is : out ≡ module_text (run 10000 patterns (rows_of names)).rows
-  pub log_is : log ≡ log_text patterns (run 10000 patterns (rows_of names))
+  pub rows : Rows
+  pub is_module : IfSome (files command.module_file) (AcceptsModule rows)
+  pub ends : (run 10000 patterns rows).ending ≡ ending
+  pub out_is : out ≡ module_text (run 10000 patterns rows).left.rows
+  pub log_is : log ≡ log_text patterns (run 10000 patterns rows)
 
 -- a count of a file of the command rose, and each file before it was accepted
 pub record ReadsBadly (old new : Outside) (words : List (List ℕ)) : Type 0 where
@@ -143,6 +152,7 @@ IsCause old new words p (statuses.ModuleFault f) = HasBadModule old words p f
 IsCause old new words p statuses.ReadFault = ReadsBadly old new words
 IsCause old new words p statuses.Done = ⊥
 IsCause old new words p (statuses.Bound k) = ⊥
+IsCause old new words p (statuses.Broken b) = ⊥
 IsCause old new words p statuses.WriteFault = ⊥
 IsCause old new words p statuses.NoMemory = ⊥
 
@@ -150,6 +160,7 @@ IsCause old new words p statuses.NoMemory = ⊥
 abbrev pub IsAnswer : Outside → Outside → List (List ℕ) → Status → List ℕ → List ℕ → Type 0
 IsAnswer old new words statuses.Done out log = Rewrites old.files words endings.Converged out log
 IsAnswer old new words (statuses.Bound bounds.Rewrites) out log = (h : Hit) × Rewrites old.files words (endings.Bound h) out log
+IsAnswer old new words (statuses.Broken b) out log = Rewrites old.files words (endings.Broken b) out log
 IsAnswer old new words status out log = (p : Position) × IsCause old new words p status × (out ≡ []) × (log ≡ line_of p status)
 
 -- Both texts were written.
@@ -178,3 +189,4 @@ IsOutcome old new words status = IsWritten old new words status
 abbrev pub kind_of_ending : Ending → Status
 kind_of_ending endings.Converged = statuses.Done
 kind_of_ending (endings.Bound h) = statuses.Bound bounds.Rewrites
+kind_of_ending (endings.Broken b) = statuses.Broken b

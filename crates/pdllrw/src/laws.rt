@@ -1,12 +1,9 @@
 // What follows from the outcome of the command, and from the run.
-ghost use Rattle.std.specs.Prelude.{◌≡◌, ℕ, List};
-ghost use Rattle.pdllrw.specs.NamedRows.{NamedRow};
-ghost use Rattle.pdllrw.specs.Patterns.{Erasing};
-ghost use Rattle.pdllrw.specs.declared.driver.Ending.TheVariants as endings;
+ghost use Rattle.std.specs.Prelude.{ℕ, List};
 ghost use Rattle.pdllrw.specs.declared.status.Status.{Status as AnyStatus};
 ghost use Rattle.pdllrw.specs.Outcome.{Outside, IsOutcome};
 ghost use Rattle.pdllrw.specs.Complete.{GoesWell, Succeeds};
-ghost use Rattle.pdllrw.specs.Run.{run, NoneMatches};
+ghost use Rattle.pdllrw.specs.Laws.{ConvergedRunsLeaveNone, RunsStayWellFormed};
 
 /// Where the files are accepted and nothing fails, the command rewrites the module, unless memory runs out.
 pub fn completes()
@@ -16,5 +13,10 @@ pub fn completes()
 /// Where a run converged, no pattern matches at any operation of the module that it left, the module itself included.
 #[tactic(auto, using(crate::proofs::Converged::converged))]
 pub fn converged()
-    ensures { (bound : ℕ) (patterns : List Erasing) (rows : List NamedRow) → (run bound patterns rows).ending ≡ endings.Converged → NoneMatches patterns (run bound patterns rows).rows }
+    ensures { ConvergedRunsLeaveNone }
+{}
+
+/// After any number of steps the module is well-formed.
+pub fn stays_well_formed()
+    ensures { RunsStayWellFormed }
 {}

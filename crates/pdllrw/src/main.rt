@@ -3,7 +3,6 @@
 
 mod driver;
 mod laws;
-mod modules;
 mod patterns;
 mod position;
 mod reading;
@@ -12,7 +11,7 @@ mod status;
 mod texts;
 mod words;
 
-pub use laws::{completes, converged};
+pub use laws::{completes, converged, stays_well_formed};
 pub use run::run;
 use rw_outside::{FileHost, StreamSink};
 pub use status::{BoundKind, Status};

@@ -1,6 +1,6 @@
 // Lines and columns.
-ghost use Rattle.std.specs.Prelude.{◌≡◌, ◌≤◌, length};
-ghost use Rattle.pdllrw.specs.Positions.{position_of};
+ghost use Rattle.std.specs.Prelude.{◌≡◌};
+ghost use Rattle.pdllrw.specs.Positions.{position_behind, position_of};
 
 /// A line and a column of a text, both counted from 1 on.
 #[derive(Clone, Copy, Debug, PartialEq, Eq)]
@@ -13,14 +13,13 @@ pub struct Position {
 /// The first place of a text.
 pub const FIRST: Position = Position { line: 1, column: 1 };
 
-/// The line and the column of a place.
-pub fn position_of(bytes: &[u8], at: usize) -> Position
-    requires { at ≤ length bytes.now }
-    ensures { result ≡ position_of bytes.now at }
+// The line and the column behind a text.
+fn position_behind(text: &[u8]) -> Position
+    ensures { result ≡ position_behind text.now }
 {
     let mut line = 1;
     let mut column = 1;
-    for b in &bytes[..at] {
+    for b in text {
         if *b == b'\n' {
             line += 1;
             column = 1;
@@ -29,4 +28,11 @@ pub fn position_of(bytes: &[u8], at: usize) -> Position
         }
     }
     Position { line, column }
+}
+
+/// The line and the column of a place. A place behind the end is that of the end.
+pub fn position_of(bytes: &[u8], at: usize) -> Position
+    ensures { result ≡ position_of bytes.now at }
+{
+    position_behind(&bytes[..at.min(bytes.len())])
 }

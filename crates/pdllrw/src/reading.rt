@@ -1,23 +1,27 @@
 // Reads the files of the command.
 ghost use Rattle.std.specs.Prelude.{◌≡◌, ◌≤◌, ◌<◌, ◌⊎◌, ℕ, List, codes, length, IfOk, IfErr, IfSome, None};
 ghost use Rattle.pdllrw.specs.Patterns.{views};
-ghost use Rattle.pdllrw.specs.Modules.{texts};
+ghost use Rattle.mlir_tree.specs.WellFormed.{HomesAreLower, IsWellFormed};
 ghost use Rattle.pdll_syntax.specs.declared.fault.PatFault.{PatFault as Fault};
 ghost use Rattle.pdllrw.specs.Positions.{position_of};
 ghost use Rattle.pdllrw.specs.Run.{best};
 ghost use Rattle.mlir_parse.specs.declared.fault.ModFault.{ModFault as ModuleFault};
 ghost use Rattle.pdllrw.specs.Outcome.{RefusesPatterns, RefusesModule};
+ghost use Rattle.mlir_parse.specs.FileGrammar.{IsModuleFile};
+ghost use Rattle.mlir_parse.specs.Limits.{KeepsLimits};
 ghost use Rattle.pdllrw.specs.declared.status.Status.TheVariants as statuses;
 ghost use Rattle.pdllrw.specs.Accepted.{AcceptsPatterns, AcceptsModule};
 ghost use Rattle.pdllrw.specs.Stops.{StopsPatterns, StopsModule};
 
-use crate::modules;
 use crate::patterns::{Pattern, built};
 use crate::position::{FIRST, Position, position_of};
 use crate::status::Status;
 use mlir_parse::fault::{ModFault, ModKind};
 use mlir_parse::parse_module;
+use mlir_parse::syn::Syn;
+use mlir_resolve::resolve;
 use mlir_tree::refusal::Refusal;
+use mlir_tree::rows::Rows;
 use pdll_parser::parse_patterns;
 use pdll_syntax::fault::{PatFault, PatKind};
 use rw_outside::{Host, TakeErr, take_all};
@@ -43,7 +47,6 @@ pub fn placeless(status: Status) -> Stop
 }
 
 fn not_spelled(bytes: &[u8], fault: PatFault) -> Stop
-    requires { fault.at ≤ length bytes.now }
     ensures status { result.status ≡ statuses.PatternFault fault }
     ensures place { result.place ≡ position_of bytes.now fault.at }
 {
@@ -95,7 +98,6 @@ pub fn read_patterns<H: Host>(alloc: Global, host: &mut H, name: &str) -> Result
 }
 
 fn no_module(bytes: &[u8], fault: ModFault) -> Stop
-    requires { fault.at ≤ length bytes.now }
     ensures status { result.status ≡ statuses.ModuleFault fault }
     ensures place { result.place ≡ position_of bytes.now fault.at }
 {
@@ -111,30 +113,41 @@ fn module_fault(kind: ModKind, at: usize) -> Stop
     placeless(Status::ModuleFault(ModFault { kind, at }))
 }
 
-// The names of the operations that these bytes spell.
-#[tactic(auto, using(crate::proofs::Names::few_texts))]
-fn names_of(alloc: Global, bytes: &[u8]) -> Result<Vec<Vec<u8>>, Stop>
+// The operations that these bytes spell.
+fn tree_of(alloc: Global, bytes: &[u8]) -> Result<Syn, Stop>
     requires { length bytes.now ≤ 67108864 }
-    ensures found { IfOk result (λ v. AcceptsModule (texts v.items) bytes.now) }
-    ensures few { IfOk result (λ v. length v.items ≤ 1000000) }
+    ensures found { IfOk result (λ file. IsModuleFile bytes.now file) }
+    ensures limits { IfOk result (λ file. KeepsLimits file) }
     ensures stopped { IfErr result (λ stop. (stop.status ≡ statuses.NoMemory) ⊎ ((f : ModuleFault) × (stop.status ≡ statuses.ModuleFault f) × RefusesModule stop.place f bytes.now)) }
 {
-    let file = match parse_module(alloc, bytes) {
-        Ok(file) => file,
-        Err(Refusal::Fault(fault)) => return Err(no_module(bytes, fault)),
-        Err(Refusal::NoMemory) => return Err(placeless(Status::NoMemory)),
-    };
-    match modules::built(alloc, &file) {
-        Ok(Some(names)) => Ok(names),
-        Ok(None) => Err(module_fault(ModKind::NotBuilt, 0)),
-        Err(_) => Err(placeless(Status::NoMemory)),
+    match parse_module(alloc, bytes) {
+        Ok(file) => Ok(file),
+        Err(Refusal::Fault(fault)) => Err(no_module(bytes, fault)),
+        Err(Refusal::NoMemory) => Err(placeless(Status::NoMemory)),
     }
 }
 
-/// The names of the operations of the file of this name.
-pub fn read_module<H: Host>(alloc: Global, host: &mut H, name: &str) -> Result<Vec<Vec<u8>>, Stop>
-    ensures found { IfOk result (λ v. IfSome (H.file host.old name.now) (AcceptsModule (texts v.items))) }
-    ensures few { IfOk result (λ v. length v.items ≤ 1000000) }
+// The rows of the module that these bytes spell.
+fn rows_of(alloc: Global, bytes: &[u8]) -> Result<Rows, Stop>
+    requires { length bytes.now ≤ 67108864 }
+    ensures found { IfOk result (λ m. AcceptsModule m bytes.now) }
+    ensures well_formed { IfOk result (λ m. IsWellFormed m) }
+    ensures homes { IfOk result (λ m. HomesAreLower m.rows) }
+    ensures stopped { IfErr result (λ stop. (stop.status ≡ statuses.NoMemory) ⊎ ((f : ModuleFault) × (stop.status ≡ statuses.ModuleFault f) × RefusesModule stop.place f bytes.now)) }
+{
+    let file = tree_of(alloc, bytes)?;
+    match resolve(alloc, &file) {
+        Ok(rows) => Ok(rows),
+        Err(Refusal::Fault(fault)) => Err(no_module(bytes, fault)),
+        Err(Refusal::NoMemory) => Err(placeless(Status::NoMemory)),
+    }
+}
+
+/// The module of the file of this name.
+pub fn read_module<H: Host>(alloc: Global, host: &mut H, name: &str) -> Result<Rows, Stop>
+    ensures found { IfOk result (λ m. IfSome (H.file host.old name.now) (AcceptsModule m)) }
+    ensures well_formed { IfOk result (λ m. IsWellFormed m) }
+    ensures homes { IfOk result (λ m. HomesAreLower m.rows) }
     ensures stopped { IfErr result (λ stop. StopsModule (H.file host.old name.now) (H.faults host.old name.now) (H.faults host.new name.now) stop.place stop.status) }
     ensures never_falls { (n : List ℕ) → H.faults host.old n ≤ H.faults host.new n }
     ensures files { (n : List ℕ) → H.file host.new n ≡ H.file host.old n }
@@ -145,5 +158,5 @@ pub fn read_module<H: Host>(alloc: Global, host: &mut H, name: &str) -> Result<V
         Err(TakeErr::TooLong) => return Err(module_fault(ModKind::TooLong, MAX_BYTES)),
         Err(TakeErr::NoMemory) => return Err(placeless(Status::NoMemory)),
     };
-    names_of(alloc, &bytes)
+    rows_of(alloc, &bytes)
 }

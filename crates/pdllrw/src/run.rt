@@ -2,22 +2,27 @@
 ghost use Rattle.std.specs.Prelude.{◌≡◌, ◌≤◌, ◌⊎◌, [], ℕ, List, Some, map, length, drop, string_bytes, IfOk};
 ghost use Rattle.rw_outside.specs.Outside.{Rose, appended, PutsFront};
 ghost use Rattle.pdllrw.specs.Patterns.{views};
-ghost use Rattle.pdllrw.specs.View.{seen_rows, seen_run};
-ghost use Rattle.pdllrw.specs.Texts.{module_text, log_text};
+ghost use Rattle.mlir_tree.specs.WellFormed.{IsWellFormed};
+ghost use Rattle.mlir_print.specs.NumberMaps.{AreNumbersOf};
+ghost use Rattle.mlir_print.specs.ModuleText.{module_text};
+ghost use Rattle.pdllrw.specs.View.{seen_run};
+ghost use Rattle.pdllrw.specs.Texts.{log_text};
 ghost use Rattle.rw_outside.specs.Puts.{Puts};
 ghost use Rattle.pdllrw.specs.declared.status.Status.TheVariants as statuses;
 ghost use Rattle.pdllrw.specs.Outcome.{IsOutcome, placed_line, patterns_line, module_line, plain_line, line_of, kind_of_ending};
 ghost use Rattle.pdllrw.specs.Written.{Tells, Shows, Writes};
 
-use crate::driver::{Ending, Row, Run, drive};
+use crate::driver::{Ending, Run, drive};
 use crate::patterns::Pattern;
 use crate::position::Position;
 use crate::reading::{Stop, placeless, read_module, read_patterns};
 use crate::status::{BoundKind, Status};
-use crate::texts::{put_log, put_module, put_pieces};
+use crate::texts::{put_log, put_pieces};
 use crate::words::command;
 use itoa::Buffer;
 use mlir_parse::fault::ModKind;
+use mlir_print::{Numbers, number, print_rows};
+use mlir_tree::rows::Rows;
 use pdll_syntax::fault::PatKind;
 use rw_outside::{BufferedSink, Failed, Host, Sink, put_all};
 use std::alloc::{AllocError, Global};
@@ -64,7 +69,6 @@ fn put_module_line<G: Sink>(log: &mut G, place: Position, kind: ModKind) -> Resu
 {
     match kind {
         ModKind::TooLong => put_all(log, b"pdllrw: module: M1 TooLong\n"),
-        ModKind::NotBuilt => put_all(log, b"pdllrw: module: M0 NotBuilt\n"),
         _ => put_placed(log, b"module", place, kind.code_text()),
     }
 }
@@ -114,35 +118,46 @@ fn status_of(ending: &Ending) -> Status
     match ending {
         Ending::Converged => Status::Done,
         Ending::Bound(_) => Status::Bound(BoundKind::Rewrites),
+        Ending::Broken(broken) => Status::Broken(*broken),
     }
 }
 
 // Gathers the module, and hands all of it on.
 fn gather_module<S: Sink>(
     gathered: &mut BufferedSink<'_, S>,
-    rows: &[Row<'_>],
+    rows: &Rows,
+    numbers: &Numbers,
 ) -> Result<(), Failed>
-    requires { drop gathered.old.done gathered.old.held.now.items ≡ [] }
-    ensures writes { Writes (S.state gathered.old.sink.now) (S.state gathered.new.sink.now) result (module_text (seen_rows rows.now)) }
+    requires empty { drop gathered.old.done gathered.old.held.now.items ≡ [] }
+    requires well_formed { IsWellFormed rows.now }
+    requires numbers { AreNumbersOf rows.now.rows numbers.now }
+    ensures writes { Writes (S.state gathered.old.sink.now) (S.state gathered.new.sink.now) result (module_text rows.now.rows) }
     ensures same_sink { gathered.new.sink.ghost_name ≡ gathered.old.sink.ghost_name }
 {
-    put_module(gathered, rows)?;
+    print_rows(rows, numbers, gathered)?;
     gathered.flush()
 }
 
 // Writes the module, gathered in this buffer.
-fn write_module<S: Sink>(out: &mut S, buffer: &mut Vec<u8>, rows: &[Row<'_>]) -> Result<(), Failed>
-    ensures { Writes (S.state out.old) (S.state out.new) result (module_text (seen_rows rows.now)) }
+fn write_module<S: Sink>(
+    out: &mut S,
+    buffer: &mut Vec<u8>,
+    rows: &Rows,
+    numbers: &Numbers,
+) -> Result<(), Failed>
+    requires well_formed { IsWellFormed rows.now }
+    requires numbers { AreNumbersOf rows.now.rows numbers.now }
+    ensures { Writes (S.state out.old) (S.state out.new) result (module_text rows.now.rows) }
 {
     let mut gathered = BufferedSink::new(out, buffer);
-    gather_module(&mut gathered, rows)
+    gather_module(&mut gathered, rows, numbers)
 }
 
 // Gathers the log, and hands all of it on.
 fn gather_log<S: Sink>(
     gathered: &mut BufferedSink<'_, S>,
     patterns: &[Pattern],
-    run: &Run<'_>,
+    run: &Run,
 ) -> Result<(), Failed>
     requires { drop gathered.old.done gathered.old.held.now.items ≡ [] }
     ensures writes { Writes (S.state gathered.old.sink.now) (S.state gathered.new.sink.now) result (log_text (views patterns.now) (seen_run run.now)) }
@@ -157,7 +172,7 @@ fn write_log<S: Sink>(
     log: &mut S,
     buffer: &mut Vec<u8>,
     patterns: &[Pattern],
-    run: &Run<'_>,
+    run: &Run,
 ) -> Result<(), Failed>
     ensures { Writes (S.state log.old) (S.state log.new) result (log_text (views patterns.now) (seen_run run.now)) }
 {
@@ -171,12 +186,15 @@ fn show<S: Sink, G: Sink>(
     log: &mut G,
     buffer: &mut Vec<u8>,
     patterns: &[Pattern],
-    run: &Run<'_>,
+    run: &Run,
+    numbers: &Numbers,
 ) -> Status
+    requires well_formed { IsWellFormed run.now.left }
+    requires numbers { AreNumbersOf run.now.left.rows numbers.now }
     ensures { Shows (S.state out.old) (S.state out.new) (G.state log.old) (G.state log.new)
-        (module_text (seen_run run.now).rows) (log_text (views patterns.now) (seen_run run.now)) (kind_of_ending run.now.ending) result }
+        (module_text run.now.left.rows) (log_text (views patterns.now) (seen_run run.now)) (kind_of_ending run.now.ending) result }
 {
-    let Ok(()) = write_module(out, buffer, &run.rows) else {
+    let Ok(()) = write_module(out, buffer, &run.left, numbers) else {
         return Status::WriteFault;
     };
     let Ok(()) = write_log(log, buffer, patterns, run) else {
@@ -206,16 +224,19 @@ pub fn run<H: Host, S: Sink, G: Sink>(
         Ok(patterns) => patterns,
         Err(stop) => return refuse(log, stop),
     };
-    let names = match read_module(alloc, host, module_name) {
-        Ok(names) => names,
+    let rows = match read_module(alloc, host, module_name) {
+        Ok(rows) => rows,
         Err(stop) => return refuse(log, stop),
     };
-    let Ok(run) = drive(alloc, &patterns, &names, MAX_STEPS) else {
+    let Ok(run) = drive(alloc, &patterns, rows, MAX_STEPS) else {
         return Status::NoMemory;
     };
     // All that writing needs is made before the first byte.
+    let Ok(numbers) = number(alloc, &run.left) else {
+        return Status::NoMemory;
+    };
     let Ok(mut buffer) = Vec::with_capacity(alloc, GATHERED) else {
         return Status::NoMemory;
     };
-    show(out, log, &mut buffer, &patterns, &run)
+    show(out, log, &mut buffer, &patterns, &run, &numbers)
 }

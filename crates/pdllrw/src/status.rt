@@ -1,5 +1,6 @@
 ghost use Rattle.std.specs.Prelude.{◌≡◌};
 
+use crate::driver::Broken;
 use mlir_parse::fault::ModFault;
 use pdll_syntax::fault::PatFault;
 
@@ -17,6 +18,7 @@ pub enum Status {
     Usage,
     PatternFault(PatFault),
     ModuleFault(ModFault),
+    Broken(Broken),
     ReadFault,
     WriteFault,
     NoMemory,
@@ -35,6 +37,7 @@ impl Status {
             Status::Usage => 2,
             Status::PatternFault(_) => 3,
             Status::ModuleFault(_) => 4,
+            Status::Broken(_) => 5,
             Status::ReadFault => 6,
             Status::WriteFault => 7,
             Status::NoMemory => 8,

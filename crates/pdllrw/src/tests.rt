@@ -1,10 +1,7 @@
 use crate::run;
 use crate::status::{BoundKind, Status};
-use mlir_parse::fault::{ModFault, ModKind};
-use pdll_syntax::fault::{PatFault, PatKind};
 use rw_outside::{MemHost, MemSink, SureHost, SureSink};
 use std::alloc::{AllocError, Global};
-use std::process::Abort;
 use std::test::Fail;
 
 const ROOM: usize = 16_777_216;
@@ -41,180 +38,327 @@ fn words(alloc: Global, texts: &[&str]) -> Result<Vec<String>, AllocError> {
     Ok(words)
 }
 
-// One run over files in memory: the status, and what both sinks took.
-#[derive(Drop)]
-struct Case<'a> {
-    words: &'a [&'a str],
-    patterns: &'a [u8],
-    module: &'a [u8],
-    status: Status,
-    out: &'a [u8],
-    log: &'a [u8],
+// Whether a run over files in memory ends with this code, and with these bytes in both sinks.
+fn ends(
+    alloc: Global,
+    words: &[String],
+    patterns: &[u8],
+    module: &[u8],
+    code: u8,
+    out: &[u8],
+    log: &[u8],
+) -> Result<bool, AllocError> {
+    let mut host = MemHost::new(files(alloc, patterns, module)?, 4096, Vec::new(alloc));
+    let mut taken = MemSink::new(alloc, ROOM)?;
+    let mut told = MemSink::new(alloc, ROOM)?;
+    let status = run(alloc, words, &mut host, &mut taken, &mut told);
+    Ok(status.code() == code && taken.bytes() == out && told.bytes() == log)
 }
 
-fn check(rt: &(impl Abort + AllocGlobal), case: &Case<'_>) -> Result<(), Fail> {
-    let alloc = rt.alloc();
-    let mut host = MemHost::new(
-        files(alloc, case.patterns, case.module)?,
-        4096,
-        Vec::new(alloc),
-    );
-    let mut out = MemSink::new(alloc, ROOM)?;
-    let mut log = MemSink::new(alloc, ROOM)?;
-    let status = run(
+// The same of the two files.
+fn gives(
+    alloc: Global,
+    patterns: &[u8],
+    module: &[u8],
+    code: u8,
+    out: &[u8],
+    log: &[u8],
+) -> Result<bool, AllocError> {
+    ends(
         alloc,
-        &words(alloc, case.words)?,
-        &mut host,
-        &mut out,
-        &mut log,
+        &words(alloc, &["p", "m"])?,
+        patterns,
+        module,
+        code,
+        out,
+        log,
+    )
+}
+
+// Whether a module is printed so, without patterns.
+fn prints(alloc: Global, module: &[u8], out: &[u8]) -> Result<bool, AllocError> {
+    gives(
+        alloc,
+        b"",
+        module,
+        0,
+        out,
+        b"pdllrw-log 1\nend converged steps 0\n",
+    )
+}
+
+// Whether an operation with one entry `v` is printed with this text in its place.
+fn prints_entry(alloc: Global, value: &[u8], printed: &[u8]) -> Result<bool, AllocError> {
+    let mut module = Vec::from_slice(alloc, b"\"t.a\"() {v = ")?;
+    module.extend_from_slice(value)?;
+    module.extend_from_slice(b"} : () -> ()\n")?;
+    let mut out = Vec::from_slice(alloc, b"\"builtin.module\"() ({\n  \"t.a\"() {v = ")?;
+    out.extend_from_slice(printed)?;
+    out.extend_from_slice(b"} : () -> ()\n}) : () -> ()\n")?;
+    prints(alloc, module.as_slice(), out.as_slice())
+}
+
+// Whether a module is refused with this line.
+fn refuses(alloc: Global, module: &[u8], line: &[u8]) -> Result<bool, AllocError> {
+    gives(alloc, b"", module, 4, b"", line)
+}
+
+// Whether a pattern file is refused with this line.
+fn refuses_patterns(alloc: Global, patterns: &[u8], line: &[u8]) -> Result<bool, AllocError> {
+    gives(alloc, patterns, MODULE, 3, b"", line)
+}
+
+fn is_wrong_usage(alloc: Global, texts: &[&str]) -> Result<bool, AllocError> {
+    ends(alloc, &words(alloc, texts)?, PATTERN, MODULE, 2, b"", USAGE)
+}
+
+#[test]
+fn modules_are_printed(rt: HostRuntime) -> Result<(), Fail> {
+    let alloc = rt.alloc();
+    assert!(rt;
+        prints(
+            alloc,
+            b"\"t.a\"() : () -> ()",
+            b"\"builtin.module\"() ({\n  \"t.a\"() : () -> ()\n}) : () -> ()\n"
+        )?
     );
-    assert_eq!(rt; status, case.status);
-    assert_eq!(rt; out.bytes(), case.out);
-    assert_eq!(rt; log.bytes(), case.log);
+    assert!(rt; prints(alloc, b"", b"\"builtin.module\"() ({}) : () -> ()\n")?);
+    assert!(rt;
+        prints(
+            alloc,
+            b"#map = affine_map<(d0) -> (d0 + 1)>\n\"builtin.module\"() ({\n  \"func.func\"() <{function_type = (i32) -> i32, sym_name = \"f\", sym_visibility = \"private\"}> ({\n  }) : () -> () loc(#loc1)\n  %0 = \"arith.constant\"() <{value = dense<[1, 2]> : tensor<2xi32>}> : () -> tensor<2xi32>\n  \"t.m\"() {map = #map, t = memref<4xf32, #map>} : () -> ()\n}) : () -> ()\n#loc1 = loc(\"x.mlir\":1:1)\n",
+            b"\"builtin.module\"() ({\n  \"func.func\"() <{function_type = (i32) -> i32, sym_name = \"f\", sym_visibility = \"private\"}> ({}) : () -> ()\n  %0 = \"arith.constant\"() <{value = dense<[1, 2]> : tensor<2xi32>}> : () -> tensor<2xi32>\n  \"t.m\"() {map = affine_map<(d0) -> (d0 + 1)>, t = memref<4xf32, affine_map<(d0) -> (d0 + 1)>>} : () -> ()\n}) : () -> ()\n"
+        )?
+    );
     Ok(())
 }
 
 #[test]
-fn rewrites_modules(rt: HostRuntime) -> Result<(), Fail> {
-    let cases = [
-        Case {
-            words: &["p", "m"],
-            patterns: b"",
-            module: b"\"t.a\"() : () -> ()",
-            status: Status::Done,
-            out: b"\"builtin.module\"() ({\n  \"t.a\"() : () -> ()\n}) : () -> ()\n",
-            log: b"pdllrw-log 1\nend converged steps 0\n",
-        },
-        Case {
-            words: &["p", "m"],
-            patterns: b"",
-            module: b"",
-            status: Status::Done,
-            out: b"\"builtin.module\"() ({}) : () -> ()\n",
-            log: b"pdllrw-log 1\nend converged steps 0\n",
-        },
-        Case {
-            words: &["p", "m"],
-            patterns: b"// both\nPattern { erase op<t.a> {}; }\nPattern B => erase op<t.b>;",
-            module: MODULE,
-            status: Status::Done,
-            out: b"\"builtin.module\"() ({}) : () -> ()\n",
-            log: b"pdllrw-log 1\nstep 1 pattern 0 \"\" root 1 made - removed 1\nstep 2 pattern 1 \"B\" root 2 made - removed 2\nstep 3 pattern 0 \"\" root 3 made - removed 3\nend converged steps 3\n",
-        },
-        Case {
-            words: &["p", "m"],
-            patterns: PATTERN,
-            module: MODULE,
-            status: Status::Done,
-            out: b"\"builtin.module\"() ({\n  \"t.b\"() : () -> ()\n}) : () -> ()\n",
-            log: b"pdllrw-log 1\nstep 1 pattern 0 \"A\" root 1 made - removed 1\nstep 2 pattern 0 \"A\" root 3 made - removed 3\nend converged steps 2\n",
-        },
-    ];
-    for case in &cases {
-        check(&rt, case)?;
-    }
+fn values_are_numbered(rt: HostRuntime) -> Result<(), Fail> {
+    let alloc = rt.alloc();
+    assert!(rt;
+        prints(
+            alloc,
+            b"%p:2 = \"t.p\"() ({\n^bb0(%a: i1, %b: i8):\n  \"t.u\"(%b, %a) : (i8, i1) -> ()\n}, {}) : () -> (i32, i32)\n\"t.v\"(%p#1) {\"x y\", s = \"a\\22\\0A\", m = @f::@\"g h\", l = [unit, {k}]} : (i32) -> ()\n",
+            b"\"builtin.module\"() ({\n  %0:2 = \"t.p\"() ({\n  ^bb0(%arg0: i1, %arg1: i8):\n    \"t.u\"(%arg1, %arg0) : (i8, i1) -> ()\n  }, {}) : () -> (i32, i32)\n  \"t.v\"(%0#1) {l = [unit, {k}], m = @f::@\"g h\", s = \"a\\22\\0A\", \"x y\"} : (i32) -> ()\n}) : () -> ()\n"
+        )?
+    );
     Ok(())
 }
 
 #[test]
-fn refuses_words_and_files(rt: HostRuntime) -> Result<(), Fail> {
-    let not_built = Status::ModuleFault(ModFault {
-        kind: ModKind::NotBuilt,
-        at: 0,
-    });
-    let cases = [
-        (&[][..], PATTERN, MODULE, Status::Usage, USAGE),
-        (&["p"][..], PATTERN, MODULE, Status::Usage, USAGE),
-        (&["p", "m", "m"][..], PATTERN, MODULE, Status::Usage, USAGE),
-        (&["p", "-m"][..], PATTERN, MODULE, Status::Usage, USAGE),
-        (
-            &["p", "m"][..],
-            b"Constraint Any(a: Attr);".as_slice(),
-            MODULE,
-            Status::PatternFault(PatFault {
-                kind: PatKind::NotBuilt,
-                at: 0,
-            }),
-            b"pdllrw: patterns: P0 NotBuilt\n".as_slice(),
-        ),
-        (
-            &["p", "m"][..],
-            b"Pattern A => erase op<t.a>;\nPattern A => erase op<t.b>;".as_slice(),
-            MODULE,
-            Status::PatternFault(PatFault {
-                kind: PatKind::NotBuilt,
-                at: 0,
-            }),
-            b"pdllrw: patterns: P0 NotBuilt\n".as_slice(),
-        ),
-        (
-            &["p", "m"][..],
-            b"// one\nPattern A =>\n  erase op<t.a>.x;\n".as_slice(),
-            MODULE,
-            Status::PatternFault(PatFault {
-                kind: PatKind::Syntax,
-                at: 36,
-            }),
-            b"pdllrw: patterns: 3:17: P5 Syntax\n".as_slice(),
-        ),
-        (
-            &["p", "m"][..],
-            b"Pattern A with benefit(65535) => erase op<t.a>;".as_slice(),
-            MODULE,
-            Status::PatternFault(PatFault {
-                kind: PatKind::BenefitRange,
-                at: 23,
-            }),
-            b"pdllrw: patterns: 1:24: P9 BenefitRange\n".as_slice(),
-        ),
-        (
-            &["p", "m"][..],
-            PATTERN,
-            b"\"t.a\"() {v} : () -> ()".as_slice(),
-            not_built,
-            b"pdllrw: module: M0 NotBuilt\n".as_slice(),
-        ),
-        (
-            &["p", "m"][..],
-            PATTERN,
-            b"// one\n\"t.a\"() {s = \"ab".as_slice(),
-            Status::ModuleFault(ModFault {
-                kind: ModKind::BadString,
-                at: 20,
-            }),
-            b"pdllrw: module: 2:14: M4 BadString\n".as_slice(),
-        ),
-        (
-            &["p", "m"][..],
-            PATTERN,
-            b"func.func @f() { }".as_slice(),
-            Status::ModuleFault(ModFault {
-                kind: ModKind::CustomForm,
-                at: 0,
-            }),
-            b"pdllrw: module: 1:1: M6 CustomForm\n".as_slice(),
-        ),
-        (
-            &["p", "absent"][..],
+fn numbers_are_printed_as_their_types_keep_them(rt: HostRuntime) -> Result<(), Fail> {
+    let alloc = rt.alloc();
+    assert!(rt; prints_entry(alloc, b"255 : i8", b"-1 : i8")?);
+    assert!(rt; prints_entry(alloc, b"-128 : i8", b"-128 : i8")?);
+    assert!(rt; prints_entry(alloc, b"1 : i1", b"true")?);
+    assert!(rt; prints_entry(alloc, b"1 : ui1", b"1 : ui1")?);
+    assert!(rt; prints_entry(alloc, b"7", b"7 : i64")?);
+    assert!(rt; prints_entry(alloc, b"1.5 : f32", b"1.5 : f32")?);
+    Ok(())
+}
+
+#[test]
+fn operations_are_erased(rt: HostRuntime) -> Result<(), Fail> {
+    let alloc = rt.alloc();
+    assert!(rt;
+        gives(
+            alloc,
             PATTERN,
             MODULE,
-            Status::ReadFault,
-            b"pdllrw: read fault\n".as_slice(),
-        ),
-    ];
-    for (words, patterns, module, status, log) in cases {
-        check(
-            &rt,
-            &Case {
-                words,
-                patterns,
-                module,
-                status,
-                out: b"",
-                log,
-            },
-        )?;
-    }
+            0,
+            b"\"builtin.module\"() ({\n  \"t.b\"() : () -> ()\n}) : () -> ()\n",
+            b"pdllrw-log 1\nstep 1 pattern 0 \"A\" root 1 made - removed 1\nstep 2 pattern 0 \"A\" root 3 made - removed 3\nend converged steps 2\n"
+        )?
+    );
+    assert!(rt;
+        gives(
+            alloc,
+            b"// both\nPattern { erase op<t.a> {}; }\nPattern B => erase op<t.b>;",
+            MODULE,
+            0,
+            b"\"builtin.module\"() ({}) : () -> ()\n",
+            b"pdllrw-log 1\nstep 1 pattern 0 \"\" root 1 made - removed 1\nstep 2 pattern 1 \"B\" root 2 made - removed 2\nstep 3 pattern 0 \"\" root 3 made - removed 3\nend converged steps 3\n"
+        )?
+    );
+    Ok(())
+}
+
+#[test]
+fn inner_operations_go_too(rt: HostRuntime) -> Result<(), Fail> {
+    let alloc = rt.alloc();
+    assert!(rt;
+        gives(
+            alloc,
+            PATTERN,
+            b"\"t.a\"() ({\n  %0 = \"t.b\"() : () -> i1\n  \"t.a\"(%0) : (i1) -> ()\n}) : () -> ()\n\"t.c\"() : () -> ()\n",
+            0,
+            b"\"builtin.module\"() ({\n  \"t.c\"() : () -> ()\n}) : () -> ()\n",
+            b"pdllrw-log 1\nstep 1 pattern 0 \"A\" root 1 made - removed 1,2,3\nend converged steps 1\n"
+        )?
+    );
+    Ok(())
+}
+
+#[test]
+fn a_use_of_a_removed_operation_breaks_the_step(rt: HostRuntime) -> Result<(), Fail> {
+    let alloc = rt.alloc();
+    assert!(rt;
+        gives(
+            alloc,
+            PATTERN,
+            b"%0 = \"t.a\"() : () -> i32\n\"t.u\"(%0) : (i32) -> ()\n",
+            5,
+            b"\"builtin.module\"() ({\n  %0 = \"t.a\"() : () -> i32\n  \"t.u\"(%0) : (i32) -> ()\n}) : () -> ()\n",
+            b"pdllrw-log 1\nend broken steps 0 pattern 0 root 1 bad-use row 2 place 0\n"
+        )?
+    );
+    assert!(rt;
+        gives(
+            alloc,
+            PATTERN,
+            b"\"t.a\"() : () -> ()\n%0 = \"t.a\"() : () -> i32\n\"t.v\"() ({\n  \"t.u\"(%0, %0) : (i32, i32) -> ()\n}) : () -> ()\n",
+            5,
+            b"\"builtin.module\"() ({\n  %0 = \"t.a\"() : () -> i32\n  \"t.v\"() ({\n    \"t.u\"(%0, %0) : (i32, i32) -> ()\n  }) : () -> ()\n}) : () -> ()\n",
+            b"pdllrw-log 1\nstep 1 pattern 0 \"A\" root 1 made - removed 1\nend broken steps 1 pattern 0 root 2 bad-use row 4 place 0\n"
+        )?
+    );
+    Ok(())
+}
+
+#[test]
+fn wrong_words_are_refused(rt: HostRuntime) -> Result<(), Fail> {
+    let alloc = rt.alloc();
+    assert!(rt; is_wrong_usage(alloc, &[])?);
+    assert!(rt; is_wrong_usage(alloc, &["p"])?);
+    assert!(rt; is_wrong_usage(alloc, &["p", "m", "m"])?);
+    assert!(rt; is_wrong_usage(alloc, &["p", "-m"])?);
+    Ok(())
+}
+
+#[test]
+fn pattern_files_are_refused(rt: HostRuntime) -> Result<(), Fail> {
+    let alloc = rt.alloc();
+    assert!(rt;
+        refuses_patterns(
+            alloc,
+            b"Constraint Any(a: Attr);",
+            b"pdllrw: patterns: P0 NotBuilt\n"
+        )?
+    );
+    assert!(rt;
+        refuses_patterns(
+            alloc,
+            b"Pattern A => erase op<t.a>;\nPattern A => erase op<t.b>;",
+            b"pdllrw: patterns: P0 NotBuilt\n"
+        )?
+    );
+    assert!(rt;
+        refuses_patterns(
+            alloc,
+            b"// one\nPattern A =>\n  erase op<t.a>.x;\n",
+            b"pdllrw: patterns: 3:17: P5 Syntax\n"
+        )?
+    );
+    assert!(rt;
+        refuses_patterns(
+            alloc,
+            b"Pattern A with benefit(65535) => erase op<t.a>;",
+            b"pdllrw: patterns: 1:24: P9 BenefitRange\n"
+        )?
+    );
+    Ok(())
+}
+
+#[test]
+fn module_files_are_refused(rt: HostRuntime) -> Result<(), Fail> {
+    let alloc = rt.alloc();
+    assert!(rt;
+        refuses(
+            alloc,
+            b"\"t.a\"() {v = 256 : i8} : () -> ()\n",
+            b"pdllrw: module: 1:14: M10 IntRange\n"
+        )?
+    );
+    assert!(rt;
+        refuses(
+            alloc,
+            b"\"t.a\"() {v = -129 : i8} : () -> ()\n",
+            b"pdllrw: module: 1:14: M10 IntRange\n"
+        )?
+    );
+    assert!(rt;
+        refuses(
+            alloc,
+            b"func.func @f() { }",
+            b"pdllrw: module: 1:1: M6 CustomForm\n"
+        )?
+    );
+    assert!(rt;
+        refuses(
+            alloc,
+            b"\"t.a\"() ({^a: ^b: }) : () -> ()",
+            b"pdllrw: module: 1:15: M8 ManyBlocks\n"
+        )?
+    );
+    assert!(rt;
+        refuses(
+            alloc,
+            b"\"t.a\"()[^b] : () -> ()",
+            b"pdllrw: module: 1:8: M7 Successors\n"
+        )?
+    );
+    Ok(())
+}
+
+#[test]
+fn more_module_files_are_refused(rt: HostRuntime) -> Result<(), Fail> {
+    let alloc = rt.alloc();
+    assert!(rt;
+        refuses(
+            alloc,
+            b"\"t.a\"() {s = \"ab",
+            b"pdllrw: module: 1:14: M4 BadString\n"
+        )?
+    );
+    assert!(rt; refuses(alloc, b"\"t.a\"() ({", b"pdllrw: module: 1:11: M5 Syntax\n")?);
+    assert!(rt;
+        refuses(
+            alloc,
+            b"\"t.a\"(%x) : (i32) -> ()",
+            b"pdllrw: module: 1:7: M15 Undefined\n"
+        )?
+    );
+    assert!(rt;
+        refuses(
+            alloc,
+            b"\"t.a\"(%x) : (i32) -> ()\n%x = \"t.b\"() : () -> i32",
+            b"pdllrw: module: 1:7: M17 NotVisible\n"
+        )?
+    );
+    assert!(rt;
+        refuses(
+            alloc,
+            b"\"t.a\"() {a, a} : () -> ()",
+            b"pdllrw: module: 1:13: M13 DictTwice\n"
+        )?
+    );
+    assert!(rt;
+        refuses(
+            alloc,
+            b"%x:65535 = \"t.a\"() : () -> ()",
+            b"pdllrw: module: 1:1: M20 CountDiffers\n"
+        )?
+    );
+    Ok(())
+}
+
+#[test]
+fn a_file_that_is_absent_is_a_read_fault(rt: HostRuntime) -> Result<(), Fail> {
+    let alloc = rt.alloc();
+    let words = words(alloc, &["p", "absent"])?;
+    let line = b"pdllrw: read fault\n";
+    assert!(rt; ends(alloc, &words, PATTERN, MODULE, 6, b"", line)?);
     Ok(())
 }
 

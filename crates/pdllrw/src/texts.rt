@@ -1,12 +1,12 @@
-// Writes the module and the log.
-ghost use Rattle.std.specs.Prelude.{◌≡◌, ◌+◌, ◌<◌, ◌^◌, length, map, List, ℕ};
+// Writes the log.
+ghost use Rattle.std.specs.Prelude.{◌≡◌, ◌+◌, ◌<◌, ◌^◌, length, map, codes, decimal, ◌∷◌, [], List, ℕ};
 ghost use Rattle.std.specs.List.{concat};
 ghost use Rattle.pdllrw.specs.Patterns.{views};
-ghost use Rattle.pdllrw.specs.View.{seen_rows, seen_run};
+ghost use Rattle.pdllrw.specs.View.{seen_run};
 ghost use Rattle.rw_outside.specs.Puts.{Puts};
-ghost use Rattle.pdllrw.specs.Texts.{row_line, row_lines, opening, closing, header, region_text, module_text, label_of, step_line, step_lines, ending_line, log_text};
+ghost use Rattle.pdllrw.specs.Texts.{header, label_of, more_numbers, numbers, step_head, step_line, step_lines, broken_line, ending_line, log_text};
 
-use crate::driver::{Ending, Hit, Row, Run};
+use crate::driver::{Broken, Ending, Hit, Run, Step};
 use crate::patterns::Pattern;
 use itoa::Buffer;
 use rw_outside::{Failed, Sink, put_all};
@@ -21,13 +21,6 @@ pub fn put_pieces<S: Sink>(sink: &mut S, pieces: &[&[u8]]) -> Result<(), Failed>
     Ok(())
 }
 
-#[tactic(auto, unfolding(crate::specs::Texts::row_line))]
-fn put_row<S: Sink>(sink: &mut S, name: &[u8]) -> Result<(), Failed>
-    ensures { Puts (S.state sink.old) (S.state sink.new) result (row_line name.now) }
-{
-    put_pieces(sink, &[b"  \"", name, b"\"() : () -> ()\n"])
-}
-
 fn label_of(patterns: &[Pattern], k: usize) -> &[u8]
     ensures { result.now ≡ label_of (views patterns.now) k }
 {
@@ -37,14 +30,55 @@ fn label_of(patterns: &[Pattern], k: usize) -> &[u8]
     }
 }
 
-#[tactic(auto, unfolding(crate::specs::Texts::step_line))]
-fn put_step<S: Sink>(sink: &mut S, patterns: &[Pattern], k: usize, hit: Hit) -> Result<(), Failed>
-    ensures { Puts (S.state sink.old) (S.state sink.new) result (step_line (views patterns.now) k hit) }
+fn put_number<S: Sink>(sink: &mut S, n: u32) -> Result<(), Failed>
+    ensures { Puts (S.state sink.old) (S.state sink.new) result (decimal n) }
+{
+    let mut buffer = Buffer::new();
+    put_all(sink, buffer.format(n).as_bytes())
+}
+
+fn put_next_number<S: Sink>(sink: &mut S, n: u32) -> Result<(), Failed>
+    ensures { Puts (S.state sink.old) (S.state sink.new) result (concat (codes "," ∷ decimal n ∷ [])) }
+{
+    let mut buffer = Buffer::new();
+    put_pieces(sink, &[b",", buffer.format(n).as_bytes()])
+}
+
+// Puts numbers with commas before them.
+fn put_more_numbers<S: Sink>(sink: &mut S, ns: &[u32]) -> Result<(), Failed>
+    ensures { Puts (S.state sink.old) (S.state sink.new) result (more_numbers ns.now) }
+{
+    for n in ns {
+        put_next_number(sink, *n)?;
+    }
+    Ok(())
+}
+
+// Puts numbers with commas between, or a dash where there are none.
+fn put_numbers<S: Sink>(sink: &mut S, ns: &[u32]) -> Result<(), Failed>
+    ensures { Puts (S.state sink.old) (S.state sink.new) result (numbers ns.now) }
+{
+    match ns {
+        [] => put_all(sink, b"-"),
+        [n, more @ ..] => {
+            put_number(sink, *n)?;
+            put_more_numbers(sink, more)
+        }
+    }
+}
+
+#[tactic(auto, unfolding(crate::specs::Texts::step_head))]
+fn put_step_head<S: Sink>(
+    sink: &mut S,
+    patterns: &[Pattern],
+    k: usize,
+    hit: Hit,
+) -> Result<(), Failed>
+    ensures { Puts (S.state sink.old) (S.state sink.new) result (step_head (views patterns.now) k hit) }
 {
     let mut count = Buffer::new();
     let mut pattern = Buffer::new();
     let mut root = Buffer::new();
-    let root = root.format(hit.root).as_bytes();
     put_pieces(
         sink,
         &[
@@ -55,38 +89,23 @@ fn put_step<S: Sink>(sink: &mut S, patterns: &[Pattern], k: usize, hit: Hit) -> 
             b" \"",
             label_of(patterns, hit.pattern),
             b"\" root ",
-            root,
+            root.format(hit.root).as_bytes(),
             b" made - removed ",
-            root,
-            b"\n",
         ],
     )
 }
 
-fn put_rows<S: Sink>(sink: &mut S, rows: &[Row<'_>]) -> Result<(), Failed>
-    ensures { Puts (S.state sink.old) (S.state sink.new) result (row_lines (seen_rows rows.now)) }
+fn put_step<S: Sink>(
+    sink: &mut S,
+    patterns: &[Pattern],
+    k: usize,
+    step: &Step,
+) -> Result<(), Failed>
+    ensures { Puts (S.state sink.old) (S.state sink.new) result (step_line (views patterns.now) k step.now) }
 {
-    for row in rows {
-        put_row(sink, row.name)?;
-    }
-    Ok(())
-}
-
-#[tactic(auto, unfolding(crate::specs::Texts::opening))]
-fn put_opening<S: Sink>(sink: &mut S, name: &[u8], rows: &[Row<'_>]) -> Result<(), Failed>
-    ensures { Puts (S.state sink.old) (S.state sink.new) result (opening name.now (seen_rows rows.now)) }
-{
-    match rows {
-        [] => put_pieces(sink, &[b"\"", name, b"\"() ({"]),
-        [_, ..] => put_pieces(sink, &[b"\"", name, b"\"() ({\n"]),
-    }
-}
-
-#[tactic(auto, unfolding(crate::specs::Texts::closing))]
-fn put_closing<S: Sink>(sink: &mut S) -> Result<(), Failed>
-    ensures { Puts (S.state sink.old) (S.state sink.new) result closing }
-{
-    put_all(sink, b"}) : () -> ()\n")
+    put_step_head(sink, patterns, k, step.hit)?;
+    put_numbers(sink, step.removed.as_slice())?;
+    put_all(sink, b"\n")
 }
 
 #[tactic(auto, unfolding(crate::specs::Texts::header))]
@@ -96,33 +115,40 @@ fn put_header<S: Sink>(sink: &mut S) -> Result<(), Failed>
     put_all(sink, b"pdllrw-log 1\n")
 }
 
-// Writes the module of this name with these operations in its region.
-fn put_region<S: Sink>(sink: &mut S, name: &[u8], rows: &[Row<'_>]) -> Result<(), Failed>
-    ensures { Puts (S.state sink.old) (S.state sink.new) result (region_text name.now (seen_rows rows.now)) }
-{
-    put_opening(sink, name, rows)?;
-    put_rows(sink, rows)?;
-    put_closing(sink)
-}
-
-/// Writes the module, which is the first of the rows, with the others in its region.
-#[tactic(auto, unfolding(crate::specs::Texts::module_text))]
-pub fn put_module<S: Sink>(sink: &mut S, rows: &[Row<'_>]) -> Result<(), Failed>
-    ensures { Puts (S.state sink.old) (S.state sink.new) result (module_text (seen_rows rows.now)) }
-{
-    match rows {
-        [] => put_all(sink, b""),
-        [module, operations @ ..] => put_region(sink, module.name, operations),
-    }
-}
-
-fn put_steps<S: Sink>(sink: &mut S, patterns: &[Pattern], steps: &[Hit]) -> Result<(), Failed>
+fn put_steps<S: Sink>(sink: &mut S, patterns: &[Pattern], steps: &[Step]) -> Result<(), Failed>
     ensures { Puts (S.state sink.old) (S.state sink.new) result (step_lines (views patterns.now) 1 steps.now) }
 {
-    for (i, hit) in steps.iter().enumerate() {
-        put_step(sink, patterns, i + 1, *hit)?;
+    for (i, step) in steps.iter().enumerate() {
+        put_step(sink, patterns, i + 1, step)?;
     }
     Ok(())
+}
+
+#[tactic(auto, unfolding(crate::specs::Texts::broken_line))]
+fn put_broken<S: Sink>(sink: &mut S, count: usize, broken: Broken) -> Result<(), Failed>
+    ensures { Puts (S.state sink.old) (S.state sink.new) result (broken_line count broken) }
+{
+    let mut steps = Buffer::new();
+    let mut pattern = Buffer::new();
+    let mut root = Buffer::new();
+    let mut row = Buffer::new();
+    let mut place = Buffer::new();
+    put_pieces(
+        sink,
+        &[
+            b"end broken steps ",
+            steps.format(count).as_bytes(),
+            b" pattern ",
+            pattern.format(broken.pattern).as_bytes(),
+            b" root ",
+            root.format(broken.root).as_bytes(),
+            b" bad-use row ",
+            row.format(broken.why.row).as_bytes(),
+            b" place ",
+            place.format(broken.why.place).as_bytes(),
+            b"\n",
+        ],
+    )
 }
 
 #[tactic(auto, unfolding(crate::specs::Texts::ending_line))]
@@ -149,11 +175,12 @@ fn put_ending<S: Sink>(sink: &mut S, count: usize, ending: &Ending) -> Result<()
                 ],
             )
         }
+        Ending::Broken(broken) => put_broken(sink, count, *broken),
     }
 }
 
 /// Writes the log.
-pub fn put_log<S: Sink>(sink: &mut S, patterns: &[Pattern], run: &Run<'_>) -> Result<(), Failed>
+pub fn put_log<S: Sink>(sink: &mut S, patterns: &[Pattern], run: &Run) -> Result<(), Failed>
     ensures { Puts (S.state sink.old) (S.state sink.new) result (log_text (views patterns.now) (seen_run run.now)) }
 {
     put_header(sink)?;

@@ -6,7 +6,7 @@ use Rattle.mlir_print.specs.ModuleText.{is_empty, region_of, region_text, row_te
 use Rattle.mlir_print.specs.Cursor.{stands_at, IsOpen}
 use Rattle.mlir_print.proofs.Printing.{prints_then, prints_as, prints_none}
 use Rattle.mlir_print.proofs.Parts.{regions_more, regions_end, some_regions, no_regions, some_region, no_region}
-use Rattle.mlir_print.proofs.Places.{both_true, true_false}
+use Rattle.mlir_tree.proofs.Places.{both_true, true_false}
 use Rattle.mlir_print.proofs.Closing.{close_region, close_row, open_at, open_behind, none_yet, inside_behind, earlier_behind, inside_further, earlier_further}
 use Rattle.mlir_print.proofs.Blocks.{ended, inside_blank, passed, skipped, arguments_at, arguments_there, some_items}
 use Rattle.mlir_print.proofs.module.+put_row.Goals as goal

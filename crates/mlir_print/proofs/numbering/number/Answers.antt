@@ -9,7 +9,7 @@ use Rattle.mlir_print.specs.ModuleText.{is_empty}
 use Rattle.mlir_print.specs.Numbering.{has_results, with_results, arguments_of, arguments_in}
 use Rattle.mlir_print.specs.Starts.{starts}
 use Rattle.mlir_print.specs.NumberMaps.{AreNumbersOf}
-use Rattle.mlir_print.proofs.Places.{IsAt, same_row, true_false}
+use Rattle.mlir_tree.proofs.Places.{IsAt, same_row, true_false}
 use Rattle.mlir_print.proofs.Blocks.{some_items}
 use Rattle.mlir_print.proofs.Counting.{AreKept, few_before, arguments_in-more, with_results-more, with_results-same, keep_more, numbers_are}
 use Rattle.mlir_print.proofs.numbering.number.Goals.{then-not-is_empty, else-not-is_empty}

@@ -1,54 +1,68 @@
-use Rattle.std.proofs.Common.{◌≡◌, ◌+◌, ◌-◌, ◌++◌, ◌∷◌, [], ℕ, List, Some, None, length, drop, sym, ◌∙◌, ap, arith, length-drop}
-use Rattle.std.specs.Global.{Vec}
-use Rattle.std.proofs.lemmas.List.{map_push, take_all}
+use Rattle.std.proofs.Common.{◌≡◌, ◌≢◌, ◌++◌, ◌∷◌, [], List, length, Some, None, refl, sym, ap, subst, ◌∙◌, arith}
+use Rattle.mlir_tree.specs.declared.row.Row.{Row}
+use Rattle.mlir_tree.specs.declared.rows.Rows.{Rows}
+use Rattle.mlir_tree.specs.WellFormed.{IsWellFormed}
+use Rattle.row_edits.proofs.Kept.{read_row}
 use Rattle.pdllrw.specs.Patterns.{views}
-use Rattle.pdllrw.specs.Modules.{texts}
-use Rattle.pdllrw.specs.declared.driver.Hit.{Hit}
-use Rattle.pdllrw.specs.declared.driver.Row.{Row}
-use Rattle.pdllrw.specs.NamedRows.{numbered}
-use Rattle.pdllrw.specs.Run.{best}
-use Rattle.pdllrw.specs.View.{seen_row, seen_rows}
-use Rattle.pdllrw.proofs.Drives.{starts, passes, takes_step, stops_at_bound, converges}
+use Rattle.pdllrw.specs.declared.driver.Step.{Step}
+use Rattle.pdllrw.specs.declared.driver.Stepped.{Stepped}
+use Rattle.pdllrw.specs.declared.driver.Stepped.TheVariants as stepped
+use Rattle.pdllrw.specs.declared.driver.Broken.{Broken}
+use Rattle.pdllrw.specs.declared.driver.Ending.TheVariants as endings
+use Rattle.pdllrw.specs.Run.{first_hit, run}
+use Rattle.pdllrw.specs.Steps.{IsHit, Steps}
+use Rattle.pdllrw.proofs.Drives.{Drives, not_own, well_formed_is, takes_step, stops_at_bound, breaks_off, converges}
 use Rattle.pdllrw.proofs.driver.drive.Goals as goal
-use Rattle.pdllrw.proofs.driver.drive.Goals.{in-None+in_ok-push-in-None, in-Some+else-len-bound+in_ok-push-in-Some}
 
-pub returns-then-len-bound : goal.returns-then-len-bound
-returns-then-len-bound c =
-    let v = c.index-names-i.result in
-    let some : best (views c.args.patterns.now) v.items ≡ Some c.in-Some.pattern = sym (c.in-Some.ensures.value ∙ ap (best (views c.args.patterns.now)) c.deref.ensures.value) in
-    let pushed = c.in_ok-push_rows-in-Some.ensures in
-    let whole = take_all (length c.args.names.now - c.loop-i.i) (drop c.loop-i.i c.args.names.now) (omega (arith, length-drop c.loop-i.i c.args.names.now)) in
-    let full : length c.loop-i.steps.items ≡ c.args.bound = omega (arith, c.if-len-bound.true, c.len.ensures, c.loop-i.steps.ok.0) in
-    stops_at_bound (views c.args.patterns.now) c.args.bound c.args.names.now c.loop-i.i c.loop-i.steps.items (seen_rows c.loop-i.rows.items) (seen_rows c.push_rows.new.rows.items) v c.in-Some.pattern
-    c.loop-i.invariant c.loop-i-test.true c.index-names-i.is some full
-    (pushed ∙ ap (λ vs. seen_rows c.loop-i.rows.items ++ numbered (c.loop-i.i + 1) (texts vs)) whole)
-
-pub loop-i-preserved : goal.loop-i-preserved
-loop-i-preserved c =
-    let v = c.index-names-i.result in
+pub returns-then-len-bound-clause-run : goal.returns-then-len-bound-clause-run
+returns-then-len-bound-clause-run c =
     let ps = views c.args.patterns.now in
-    elim c.match-best.branch [
-      | in-None+in_ok-push-in-None w ↦
-          let none : best ps v.items ≡ None = sym (w.in-None.ensures.value ∙ ap (best ps) c.deref.ensures.value) in
-          let rows : seen_rows c.match-best.rows.items ≡ seen_rows c.loop-i.rows.items ++ record { id = c.loop-i.i + 1; name = v.items } ∷ [] =
-          ap (λ (r : Vec Row). seen_rows r.items) w.rows-is ∙ ap seen_rows w.in_ok-push-in-None.ensures.items ∙ map_push seen_row c.loop-i.rows.items (record { id = c.loop-i.i + 1; name = w.deref-in-None.result })
-          ∙ ap (λ (t : List ℕ). seen_rows c.loop-i.rows.items ++ record { id = c.loop-i.i + 1; name = t } ∷ []) w.deref-in-None.ensures.value in
-          let d = passes ps c.args.bound c.args.names.now c.loop-i.i c.loop-i.steps.items (seen_rows c.loop-i.rows.items) v c.loop-i.invariant c.loop-i-test.true c.index-names-i.is none in
-          rw (rows, ap (λ (s : Vec Hit). s.items) w.steps-is) d
-      | in-Some+else-len-bound+in_ok-push-in-Some w ↦
-          let some : best ps v.items ≡ Some w.in-Some.pattern = sym (w.in-Some.ensures.value ∙ ap (best ps) c.deref.ensures.value) in
-          let room : length c.loop-i.steps.items ≡ c.args.bound → ⊥ = λ e. w.if-len-bound.false (w.len.ensures ∙ omega (arith, c.loop-i.steps.ok.0, e)) in
-          let steps : c.match-best.steps.items ≡ c.loop-i.steps.items ++ record { pattern = w.in-Some.pattern; root = c.loop-i.i + 1 } ∷ [] =
-          ap (λ (s : Vec Hit). s.items) w.steps-is ∙ w.in_ok-push-in-Some.ensures.items in
-          let d = takes_step ps c.args.bound c.args.names.now c.loop-i.i c.loop-i.steps.items (seen_rows c.loop-i.rows.items) v w.in-Some.pattern c.loop-i.invariant c.loop-i-test.true c.index-names-i.is some room in
-          rw (steps, ap (λ (r : Vec Row). seen_rows r.items) w.rows-is) d
-    ]
+    let hit : IsHit ps c.loop-at.rows.rows c.in-Some.at c.in-Some.hit = subst (λ (l : List Row). IsHit ps l c.in-Some.at c.in-Some.hit) c.as_slice.ensures c.in-Some.ensures.found in
+    stops_at_bound ps c.args.bound c.args.rows c.loop-at.from c.in-Some.at c.loop-at.steps.items c.loop-at.rows c.in-Some.hit c.loop-at.invariant hit (omega (arith, c.if-len-bound.true, c.len.ensures, c.loop-at.steps.ok.0))
 
-pub returns : goal.returns
-returns c = converges (views c.args.patterns.now) c.args.bound c.args.names.now c.loop-i.i c.loop-i.steps.items (seen_rows c.loop-i.rows.items) c.loop-i.invariant c.loop-i-test.false
+pub take_step-requires-clause-inner : goal.take_step-requires-clause-inner
+take_step-requires-clause-inner c r here =
+    let ps = views c.args.patterns.now in
+    let d = c.loop-at.invariant in
+    let hit : IsHit ps c.loop-at.rows.rows c.in-Some.at c.in-Some.hit = subst (λ (l : List Row). IsHit ps l c.in-Some.at c.in-Some.hit) c.as_slice.ensures c.in-Some.ensures.found in
+    not_own ps c.loop-at.rows d.is_module c.requires.not_the_module c.in-Some.at r c.in-Some.hit.pattern here (hit.root r here).1
 
-pub loop-i-init : goal.loop-i-init
-loop-i-init c =
-    let items = c.in_ok-push.ensures.items in
-    let pushed = rw c.new-rows.ensures.items at items in
-    rw (pushed, c.new-steps.ensures.items) (starts (views c.args.patterns.now) c.args.bound c.args.names.now c.requires.not_the_module)
+pub returns-in-Broken-clause-run : goal.returns-in-Broken-clause-run
+returns-in-Broken-clause-run c =
+    let ps = views c.args.patterns.now in
+    let hit : IsHit ps c.loop-at.rows.rows c.in-Some.at c.in-Some.hit = subst (λ (l : List Row). IsHit ps l c.in-Some.at c.in-Some.hit) c.as_slice.ensures c.in-Some.ensures.found in
+    let r = read_row c.loop-at.rows.rows c.in-Some.at hit.within in
+    let steps : Steps c.in-Some.hit.root c.loop-at.rows c.take_step.new.rows (stepped.Broken c.in-Broken.bad) =
+    subst (λ (s : Stepped). Steps c.in-Some.hit.root c.loop-at.rows c.take_step.new.rows s) c.in-Broken.is
+    (subst (λ n. Steps n c.loop-at.rows c.take_step.new.rows c.in_ok-removed.field-0) (hit.root r.0 r.1).0 (c.in_ok-removed.ensures.steps r.0 r.1)) in
+    ap (λ (b : Broken). record { steps = c.loop-at.steps.items; ending = endings.Broken b; left = c.take_step.new.rows }) c.broken_at.ensures
+    ∙ breaks_off ps c.args.bound c.args.rows c.loop-at.from c.in-Some.at c.loop-at.steps.items c.loop-at.rows c.take_step.new.rows c.in-Some.hit c.in-Broken.bad c.loop-at.invariant hit
+    (λ e. c.if-len-bound.false (omega (arith, e, c.len.ensures, c.loop-at.steps.ok.0))) steps
+
+pub returns-in-Broken-clause-well_formed : goal.returns-in-Broken-clause-well_formed
+returns-in-Broken-clause-well_formed c =
+    let ps = views c.args.patterns.now in
+    let d = c.loop-at.invariant in
+    let hit : IsHit ps c.loop-at.rows.rows c.in-Some.at c.in-Some.hit = subst (λ (l : List Row). IsHit ps l c.in-Some.at c.in-Some.hit) c.as_slice.ensures c.in-Some.ensures.found in
+    let r = read_row c.loop-at.rows.rows c.in-Some.at hit.within in
+    let steps : Steps r.0.id c.loop-at.rows c.take_step.new.rows (stepped.Broken c.in-Broken.bad) =
+    subst (λ (s : Stepped). Steps r.0.id c.loop-at.rows c.take_step.new.rows s) c.in-Broken.is (c.in_ok-removed.ensures.steps r.0 r.1) in
+    subst IsWellFormed (sym steps.1) (well_formed_is c.loop-at.rows d.is_module d.operands)
+
+pub loop-at-preserved : goal.loop-at-preserved
+loop-at-preserved c =
+    let ps = views c.args.patterns.now in
+    let hit : IsHit ps c.loop-at.rows.rows c.in-Some.at c.in-Some.hit = subst (λ (l : List Row). IsHit ps l c.in-Some.at c.in-Some.hit) c.as_slice.ensures c.in-Some.ensures.found in
+    let r = read_row c.loop-at.rows.rows c.in-Some.at hit.within in
+    let steps : Steps c.in-Some.hit.root c.loop-at.rows c.take_step.new.rows (stepped.Taken c.in-Taken.removed) =
+    subst (λ (s : Stepped). Steps c.in-Some.hit.root c.loop-at.rows c.take_step.new.rows s) c.in-Taken.is
+    (subst (λ n. Steps n c.loop-at.rows c.take_step.new.rows c.in_ok-removed.field-0) (hit.root r.0 r.1).0 (c.in_ok-removed.ensures.steps r.0 r.1)) in
+    subst (λ (l : List Step). Drives ps c.args.bound c.args.rows c.in-Some.at l c.take_step.new.rows) (sym c.in_ok-push-in-Taken.ensures.items)
+    (takes_step ps c.args.bound c.args.rows c.loop-at.from c.in-Some.at c.loop-at.steps.items c.loop-at.rows c.take_step.new.rows c.in-Some.hit c.in-Taken.removed c.loop-at.invariant hit
+    (λ e. c.if-len-bound.false (omega (arith, e, c.len.ensures, c.loop-at.steps.ok.0))) steps c.in_ok-removed.ensures.module c.in_ok-removed.ensures.front c.in_ok-removed.ensures.long)
+
+pub returns-clause-run : goal.returns-clause-run
+returns-clause-run c =
+    let ps = views c.args.patterns.now in
+    let none : first_hit ps c.loop-at.rows.rows ≡ None = subst (λ (l : List Row). first_hit ps l ≡ None) c.as_slice.ensures (c.in_default.ensures.none refl) in
+    converges ps c.args.bound c.args.rows c.loop-at.from c.loop-at.steps.items c.loop-at.rows c.loop-at.invariant none

@@ -1,7 +1,10 @@
+use Rattle.std.proofs.Common.{◌-◌, length}
 use Rattle.pdllrw.specs.Patterns.{views}
-use Rattle.pdllrw.specs.View.{seen_rows}
 use Rattle.pdllrw.proofs.Drives.{Drives}
 use Rattle.pdllrw.proofs.driver.drive.Given as goal
 
-abbrev pub invariant-loop-i : goal.invariant-loop-i
-invariant-loop-i l = Drives (views l.patterns) l.bound l.names l.i l.steps.items (seen_rows l.rows.items)
+abbrev pub invariant-loop-at : goal.invariant-loop-at
+invariant-loop-at l = Drives (views l.patterns) l.bound l.initial.rows l.from l.steps.items l.rows
+
+abbrev pub decreases-loop-at : goal.decreases-loop-at
+decreases-loop-at l = l.bound - length l.steps.items

@@ -1,21 +1,20 @@
 use Rattle.std.proofs.lemmas.Result.{err_from_is_err_and}
-use Rattle.pdllrw.specs.View.{seen_rows}
-use Rattle.pdllrw.specs.Texts.{module_text}
+use Rattle.mlir_print.specs.ModuleText.{module_text}
 use Rattle.pdllrw.proofs.Gathered.{gathering_fails, flushes}
 use Rattle.pdllrw.proofs.run.gather_module.Goals as goal
 
-pub returns-in_err-put_module-clause-writes : goal.returns-in_err-put_module-clause-writes
-returns-in_err-put_module-clause-writes g c =
+pub returns-in_err-print_rows-clause-writes : goal.returns-in_err-print_rows-clause-writes
+returns-in_err-print_rows-clause-writes g c =
     let p = err_from_is_err_and c.from_residual.result c.from_residual.ensures.1 in
     let before = c.args.gathered.now in
-    let now = c.put_module.new.sink in
-    gathering_fails g.S.Sink.state before.sink now.sink before.held.now.items now.held.now.items before.done now.done (module_text (seen_rows c.args.rows.now)) c.requires c.from_residual.result p.0 _ p.1 c.in_err-put_module.ensures
+    let now = c.print_rows.new.sink in
+    gathering_fails g.S.Sink.state before.sink now.sink before.held.now.items now.held.now.items before.done now.done (module_text c.args.rows.now.rows) c.requires.empty c.from_residual.result p.0 _ p.1 c.in_err-print_rows.ensures
 
 pub returns-clause-writes : goal.returns-clause-writes
 returns-clause-writes g c =
     let before = c.args.gathered.now in
-    let now = c.put_module.new.sink in
+    let now = c.print_rows.new.sink in
     let after = c.flush.new.self in
     let flushed = c.flush.ensures in
-    flushes g.S.Sink.state before.sink now.sink before.held.now.items now.held.now.items before.done now.done (module_text (seen_rows c.args.rows.now)) c.requires _ c.flush.result after.sink after.held.now.items after.done
-    c.in_ok-put_module.ensures flushed.bytes flushed.empty flushed.failed flushed.never_falls flushed.arrives
+    flushes g.S.Sink.state before.sink now.sink before.held.now.items now.held.now.items before.done now.done (module_text c.args.rows.now.rows) c.requires.empty _ c.flush.result after.sink after.held.now.items after.done
+    c.in_ok-print_rows.ensures flushed.bytes flushed.empty flushed.failed flushed.never_falls flushed.arrives

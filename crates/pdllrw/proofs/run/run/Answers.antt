@@ -2,12 +2,11 @@ use Rattle.std.proofs.Common.{◌≡◌, ℕ, List, Option, map, codes, string_b
 use Rattle.std.specs.Option.{option_map}
 use Rattle.std.specs.Prelude.{IfSome}
 use Rattle.pdllrw.specs.Patterns.{views}
-use Rattle.pdllrw.specs.Modules.{texts}
 use Rattle.pdllrw.specs.Run.{best, Course, run}
-use Rattle.pdllrw.specs.NamedRows.{rows_of}
 use Rattle.pdllrw.specs.View.{seen_run}
 use Rattle.pdllrw.specs.Accepted.{AcceptsPatterns, AcceptsModule}
-use Rattle.pdllrw.specs.Texts.{module_text, log_text}
+use Rattle.mlir_print.specs.ModuleText.{module_text}
+use Rattle.pdllrw.specs.Texts.{log_text}
 use Rattle.pdllrw.specs.Outcome.{Command, Rewrites}
 use Rattle.pdllrw.proofs.Outcomes.{refused_words, stopped, patterns_stop, module_stops, shown, stops_since}
 use Rattle.pdllrw.proofs.run.run.Goals as goal
@@ -41,23 +40,22 @@ pub returns : goal.returns
 returns g c =
     let name = c.in-Some.module_name.now in
     let patterns = views c.in-Ok.patterns.items in
-    let names = texts c.in-Ok-read_module.names.items in
+    let rows = c.in-Ok-read_module.rows in
     let found : IfSome (g.H.Host.file c.args.host.now c.in-Some.patterns_name.now) (AcceptsPatterns patterns) = c.in-Ok.ensures.found in
-    let found_later : IfSome (g.H.Host.file c.read_patterns.new.host name) (AcceptsModule names) = c.in-Ok-read_module.ensures.found in
+    let found_later : IfSome (g.H.Host.file c.read_patterns.new.host name) (AcceptsModule rows) = c.in-Ok-read_module.ensures.found in
     let same_file : g.H.Host.file c.read_patterns.new.host name ≡ g.H.Host.file c.args.host.now name = c.read_patterns.ensures.files name in
-    let is_module : IfSome (g.H.Host.file c.args.host.now name) (AcceptsModule names) = subst (λ (o : Option (List ℕ)). IfSome o (AcceptsModule names)) same_file found_later in
-    let course : seen_run c.in-Ok-drive.run' ≡ run 10000 patterns (rows_of names) =
-    c.in-Ok-drive.ensures ∙ ap (λ ps. run 10000 (views ps) (rows_of (texts c.deref-2.result.now))) c.deref.ensures.value ∙ ap (λ ns. run 10000 patterns (rows_of (texts ns))) c.deref-2.ensures.value in
-    let out = module_text (seen_run c.in-Ok-drive.run').rows in
-    let log = log_text (views c.deref-3.result.now) (seen_run c.in-Ok-drive.run') in
+    let is_module : IfSome (g.H.Host.file c.args.host.now name) (AcceptsModule rows) = subst (λ (o : Option (List ℕ)). IfSome o (AcceptsModule rows)) same_file found_later in
+    let course : seen_run c.in-Ok-drive.run' ≡ run 10000 patterns rows = c.in-Ok-drive.ensures.run ∙ ap (λ ps. run 10000 (views ps) rows) c.deref.ensures.value in
+    let out = module_text (seen_run c.in-Ok-drive.run').left.rows in
+    let log = log_text (views c.deref-2.result.now) (seen_run c.in-Ok-drive.run') in
     let rewrites : Rewrites (g.H.Host.file c.args.host.now) (map string_bytes c.args.words.now) c.in-Ok-drive.run'.ending out log = record {
       command = record { patterns = c.in-Some.patterns_name.now; module_file = name; is_command = sym c.in-Some.ensures };
       patterns = patterns;
       are_patterns = found;
-      names = names;
+      rows = rows;
       is_module = is_module;
       ends = ap (λ (r : Course). r.ending) (sym course);
-      out_is = ap (λ (r : Course). module_text r.rows) course;
-      log_is = ap (λ ps. log_text (views ps) (seen_run c.in-Ok-drive.run')) c.deref-3.ensures.value ∙ ap (log_text patterns) course;
+      out_is = ap (λ (r : Course). module_text r.left.rows) course;
+      log_is = ap (λ ps. log_text (views ps) (seen_run c.in-Ok-drive.run')) c.deref-2.ensures.value ∙ ap (log_text patterns) course;
     } in
     shown _ _ _ c.in-Ok-drive.run'.ending out log c.show.result rewrites c.show.ensures

@@ -1,0 +1,6 @@
+//! The edits of a module's rows.
+#![tactic(auto)]
+
+pub mod laws;
+mod moves;
+pub mod removal;
