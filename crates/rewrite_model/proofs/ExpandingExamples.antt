@@ -1,0 +1,369 @@
+-- Pattern files of which the checker computes the patterns.
+use Rattle.std.specs.Prelude.{◌≡◌, ℕ, List, [], ◌∷◌, Option, Some, None, codes}
+use Rattle.std.proofs.Common.{refl}
+use Rattle.mlir_tree.specs.Tree.{unit}
+use Rattle.pdll_syntax.specs.declared.stmt.Values.TheVariants.{One, Several}
+use Rattle.pdll_syntax.specs.declared.stmt.Body.TheVariants as body
+use Rattle.pdll_syntax.specs.declared.file.PatFile.{PatFile}
+use Rattle.pdll_syntax.specs.declared.file.Decl.TheVariants as decl
+use Rattle.pdll_syntax.specs.declared.file.MetaForm.TheVariants.{Benefit}
+use Rattle.pdll_syntax.specs.ExprTree.{Expr as Syntax, attr_ref, op_ref, type_ref, value_ref, value_range_ref, named_ref, no_expr, some_expr, entry}
+use Rattle.pdll_syntax.specs.StmtTree.{Stmt, stmt, let_stmt, erase_stmt, return_stmt, replace_stmt, rewrite_stmt, stmts}
+use Rattle.native_set.specs.declared.native.Kind.TheVariants as kind
+use Rattle.native_set.specs.declared.native.Constraint.TheVariants.{HasOneUse, IsInt, NoRegions}
+use Rattle.native_set.specs.declared.native.Rewrite.TheVariants.{AddInt}
+use Rattle.rewrite_model.specs.Pattern.{the, attr_literal, result, only_result, is_operation, has_name, has_type, stands, calls, matched, made, new_operation, result_of, only_result_of, results_of, result_types_of, native, makes, replaces, erases, Pattern}
+use Rattle.rewrite_model.specs.Expanding.{expanded, patterns, constraint_scene}
+use Rattle.rewrite_model.specs.Size.{Size, expanded_size}
+use Rattle.rewrite_model.proofs.Samples.{a_ref, name, member, call, declared, op_at, with_value, a_name, let_be, plain, pattern, braces, param, constraint, rewrite}
+
+-- Pattern ReshapeReshape {
+--   let inner = op<t.reshape>(x: Value);
+--   let root = op<t.reshape>(inner);
+--   replace root with op<t.reshape>(x);
+-- }
+abbrev reshape_body : List Stmt
+reshape_body =
+    let_be (codes "inner") (op_at 40 (codes "t.reshape") (Some (declared 54 (codes "x") (value_ref no_expr ∷ []) ∷ [])) [] None)
+    ∷ let_be (codes "root") (op_at 80 (codes "t.reshape") (Some (name (codes "inner") ∷ [])) [] None)
+    ∷ stmt 0 (replace_stmt (name (codes "root")) (One (op_at 120 (codes "t.reshape") (Some (name (codes "x") ∷ [])) [] None)))
+    ∷ []
+
+abbrev pub reshape_reshape : Pattern
+reshape_reshape = record {
+  name = codes "ReshapeReshape";
+  benefit = 1;
+  kinds = kind.Value ∷ kind.Tys ∷ kind.Op ∷ kind.Tys ∷ kind.Op ∷ [];
+  places = 54 ∷ 40 ∷ 40 ∷ 80 ∷ 80 ∷ [];
+  demands =
+      is_operation 2 (record { name = codes "t.reshape"; operands = the 0 ∷ []; entries = []; types = the 1 ∷ [] })
+      ∷ stands (the 2)
+      ∷ is_operation 4 (record { name = codes "t.reshape"; operands = only_result 2 ∷ []; entries = []; types = the 3 ∷ [] })
+      ∷ stands (the 4)
+      ∷ [];
+  root = 4;
+  actions =
+      makes (result_types_of (matched (the 4)))
+      ∷ makes (new_operation (record { name = codes "t.reshape"; operands = matched (the 0) ∷ []; entries = []; types = made 0 ∷ [] }))
+      ∷ makes (results_of (made 1))
+      ∷ replaces (matched (the 4)) (made 2 ∷ [])
+      ∷ [];
+}
+
+reshapes : expanded [] (pattern (codes "ReshapeReshape") [] (braces reshape_body)) ≡ reshape_reshape
+unfolding expanded
+reshapes = refl
+
+-- The size: 3 statements, 3 operations; 2 names of operations and 2 of a value, one variable, 3 operations and 3 left-out lists
+reshape_size : expanded_size [] (decl.Pattern (pattern (codes "ReshapeReshape") [] (braces reshape_body))) ≡ record { statements = 3; operations = 3; expressions = 10 }
+unfolding expanded_size
+reshape_size = refl
+
+-- ---- the patterns of the other examples
+
+-- Pattern Low => erase op<t.a>;
+abbrev pub low : Pattern
+low = record {
+  name = codes "Low"; benefit = 1; kinds = kind.Values ∷ kind.Tys ∷ kind.Op ∷ []; places = 21 ∷ 21 ∷ 21 ∷ [];
+  demands = is_operation 2 (record { name = codes "t.a"; operands = the 0 ∷ []; entries = []; types = the 1 ∷ [] }) ∷ [];
+  root = 2;
+  actions = erases (matched (the 2)) ∷ [];
+}
+
+-- Pattern High with benefit(10) { let r = op<t.a>; rewrite r with { op<t.b> -> (); erase r; }; }
+abbrev pub high : Pattern
+high = record {
+  name = codes "High"; benefit = 10; kinds = kind.Values ∷ kind.Tys ∷ kind.Op ∷ []; places = 65 ∷ 65 ∷ 65 ∷ [];
+  demands = is_operation 2 (record { name = codes "t.a"; operands = the 0 ∷ []; entries = []; types = the 1 ∷ [] }) ∷ stands (the 2) ∷ [];
+  root = 2;
+  actions = makes (new_operation (record { name = codes "t.b"; operands = []; entries = []; types = [] })) ∷ erases (matched (the 2)) ∷ [];
+}
+
+abbrev high_body : List Stmt
+high_body =
+    let_be (codes "r") (op_at 65 (codes "t.a") None [] None)
+    ∷ stmt 0 (rewrite_stmt (name (codes "r")) (stmts (plain (op_at 90 (codes "t.b") None [] (Some [])) ∷ stmt 0 (erase_stmt (name (codes "r"))) ∷ [])) 0)
+    ∷ []
+
+abbrev low_and_high : PatFile
+low_and_high = record { decls =
+    decl.Pattern (pattern (codes "Low") [] (body.One (stmt 0 (erase_stmt (op_at 21 (codes "t.a") None [] None)))))
+    ∷ decl.Pattern (pattern (codes "High") (record { at = 0; form = Benefit 10 } ∷ []) (braces high_body))
+    ∷ [] }
+
+two_patterns : patterns low_and_high ≡ low ∷ high ∷ []
+unfolding patterns expanded
+two_patterns = refl
+
+-- Pattern Same => replace op<t.sub>(x: Value, x) with op<t.zero>;
+abbrev pub same : Pattern
+same = record {
+  name = codes "Same"; benefit = 1; kinds = kind.Value ∷ kind.Tys ∷ kind.Op ∷ []; places = 32 ∷ 24 ∷ 24 ∷ [];
+  demands = is_operation 2 (record { name = codes "t.sub"; operands = the 0 ∷ the 0 ∷ []; entries = []; types = the 1 ∷ [] }) ∷ [];
+  root = 2;
+  actions =
+      makes (result_types_of (matched (the 2)))
+      ∷ makes (new_operation (record { name = codes "t.zero"; operands = []; entries = []; types = made 0 ∷ [] }))
+      ∷ makes (results_of (made 1))
+      ∷ replaces (matched (the 2)) (made 2 ∷ [])
+      ∷ [];
+}
+
+same_stmt : expanded [] (pattern (codes "Same") [] (body.One (stmt 0 (replace_stmt
+    (op_at 24 (codes "t.sub") (Some (declared 32 (codes "x") (value_ref no_expr ∷ []) ∷ name (codes "x") ∷ [])) [] None)
+    (One (op_at 60 (codes "t.zero") None [] None)))))) ≡ same
+unfolding expanded
+same_stmt = refl
+
+-- Pattern Self { let root = op<t.a>; replace root with op<t.x>(root.0); }
+abbrev pub self_use : Pattern
+self_use = record {
+  name = codes "Self"; benefit = 1; kinds = kind.Values ∷ kind.Tys ∷ kind.Op ∷ []; places = 26 ∷ 26 ∷ 26 ∷ [];
+  demands = is_operation 2 (record { name = codes "t.a"; operands = the 0 ∷ []; entries = []; types = the 1 ∷ [] }) ∷ stands (the 2) ∷ [];
+  root = 2;
+  actions =
+      makes (result_of (matched (the 2)) 0)
+      ∷ makes (result_types_of (matched (the 2)))
+      ∷ makes (new_operation (record { name = codes "t.x"; operands = made 0 ∷ []; entries = []; types = made 1 ∷ [] }))
+      ∷ makes (results_of (made 2))
+      ∷ replaces (matched (the 2)) (made 3 ∷ [])
+      ∷ [];
+}
+
+self_stmts : expanded [] (pattern (codes "Self") [] (braces
+    (let_be (codes "root") (op_at 26 (codes "t.a") None [] None)
+    ∷ stmt 0 (replace_stmt (name (codes "root")) (One (op_at 52 (codes "t.x") (Some (member (name (codes "root")) 0 ∷ [])) [] None)))
+    ∷ []))) ≡ self_use
+unfolding expanded
+self_stmts = refl
+
+-- Pattern Swap { let inner = op<t.a>; let root = op<t.b>(inner); rewrite root with { replace inner with op<t.c>; }; }
+abbrev pub swap : Pattern
+swap = record {
+  name = codes "Swap"; benefit = 1; kinds = kind.Values ∷ kind.Tys ∷ kind.Op ∷ kind.Tys ∷ kind.Op ∷ []; places = 1 ∷ 1 ∷ 1 ∷ 2 ∷ 2 ∷ [];
+  demands =
+      is_operation 2 (record { name = codes "t.a"; operands = the 0 ∷ []; entries = []; types = the 1 ∷ [] })
+      ∷ stands (the 2)
+      ∷ is_operation 4 (record { name = codes "t.b"; operands = only_result 2 ∷ []; entries = []; types = the 3 ∷ [] })
+      ∷ stands (the 4)
+      ∷ [];
+  root = 4;
+  actions =
+      makes (result_types_of (matched (the 2)))
+      ∷ makes (new_operation (record { name = codes "t.c"; operands = []; entries = []; types = made 0 ∷ [] }))
+      ∷ makes (results_of (made 1))
+      ∷ replaces (matched (the 2)) (made 2 ∷ [])
+      ∷ [];
+}
+
+swap_stmts : expanded [] (pattern (codes "Swap") [] (braces
+    (let_be (codes "inner") (op_at 1 (codes "t.a") None [] None)
+    ∷ let_be (codes "root") (op_at 2 (codes "t.b") (Some (name (codes "inner") ∷ [])) [] None)
+    ∷ stmt 0 (rewrite_stmt (name (codes "root")) (stmts (stmt 0 (replace_stmt (name (codes "inner")) (One (op_at 3 (codes "t.c") None [] None))) ∷ [])) 0)
+    ∷ []))) ≡ swap
+unfolding expanded
+swap_stmts = refl
+
+-- Pattern Two { let x = op<t.a>; let y = op<t.a>; let root = op<t.b>(x, y); rewrite root with { erase root; erase x; erase y; }; }
+abbrev pub two : Pattern
+two = record {
+  name = codes "Two"; benefit = 1;
+  kinds = kind.Values ∷ kind.Tys ∷ kind.Op ∷ kind.Values ∷ kind.Tys ∷ kind.Op ∷ kind.Tys ∷ kind.Op ∷ [];
+  places = 1 ∷ 1 ∷ 1 ∷ 2 ∷ 2 ∷ 2 ∷ 3 ∷ 3 ∷ [];
+  demands =
+      is_operation 2 (record { name = codes "t.a"; operands = the 0 ∷ []; entries = []; types = the 1 ∷ [] })
+      ∷ stands (the 2)
+      ∷ is_operation 5 (record { name = codes "t.a"; operands = the 3 ∷ []; entries = []; types = the 4 ∷ [] })
+      ∷ stands (the 5)
+      ∷ is_operation 7 (record { name = codes "t.b"; operands = only_result 2 ∷ only_result 5 ∷ []; entries = []; types = the 6 ∷ [] })
+      ∷ stands (the 7)
+      ∷ [];
+  root = 7;
+  actions = erases (matched (the 7)) ∷ erases (matched (the 2)) ∷ erases (matched (the 5)) ∷ [];
+}
+
+abbrev erase_name : List ℕ → Stmt
+erase_name n = stmt 0 (erase_stmt (name n))
+
+two_stmts : expanded [] (pattern (codes "Two") [] (braces
+    (let_be (codes "x") (op_at 1 (codes "t.a") None [] None)
+    ∷ let_be (codes "y") (op_at 2 (codes "t.a") None [] None)
+    ∷ let_be (codes "root") (op_at 3 (codes "t.b") (Some (name (codes "x") ∷ name (codes "y") ∷ [])) [] None)
+    ∷ stmt 0 (rewrite_stmt (name (codes "root")) (stmts (erase_name (codes "root") ∷ erase_name (codes "x") ∷ erase_name (codes "y") ∷ [])) 0)
+    ∷ []))) ≡ two
+unfolding expanded
+two_stmts = refl
+
+-- Constraint HasOneUse(v: Value);
+-- Pattern Fuse {
+--   let a = op<t.a>;
+--   let b = op<t.b>(a);
+--   let root = op<t.c>(b);
+--   HasOneUse(a.0);
+--   replace root with op<t.abc>;
+-- }
+-- Pattern Drop => erase op<t.dead>;
+abbrev pub fuse : Pattern
+fuse = record {
+  name = codes "Fuse"; benefit = 1;
+  kinds = kind.Values ∷ kind.Tys ∷ kind.Op ∷ kind.Tys ∷ kind.Op ∷ kind.Tys ∷ kind.Op ∷ [];
+  places = 1 ∷ 1 ∷ 1 ∷ 2 ∷ 2 ∷ 3 ∷ 3 ∷ [];
+  demands =
+      is_operation 2 (record { name = codes "t.a"; operands = the 0 ∷ []; entries = []; types = the 1 ∷ [] })
+      ∷ stands (the 2)
+      ∷ is_operation 4 (record { name = codes "t.b"; operands = only_result 2 ∷ []; entries = []; types = the 3 ∷ [] })
+      ∷ stands (the 4)
+      ∷ is_operation 6 (record { name = codes "t.c"; operands = only_result 4 ∷ []; entries = []; types = the 5 ∷ [] })
+      ∷ stands (the 6)
+      ∷ calls HasOneUse (result 2 0 ∷ [])
+      ∷ [];
+  root = 6;
+  actions =
+      makes (result_types_of (matched (the 6)))
+      ∷ makes (new_operation (record { name = codes "t.abc"; operands = []; entries = []; types = made 0 ∷ [] }))
+      ∷ makes (results_of (made 1))
+      ∷ replaces (matched (the 6)) (made 2 ∷ [])
+      ∷ [];
+}
+
+abbrev pub drop_dead : Pattern
+drop_dead = record {
+  name = codes "Drop"; benefit = 1; kinds = kind.Values ∷ kind.Tys ∷ kind.Op ∷ []; places = 9 ∷ 9 ∷ 9 ∷ [];
+  demands = is_operation 2 (record { name = codes "t.dead"; operands = the 0 ∷ []; entries = []; types = the 1 ∷ [] }) ∷ [];
+  root = 2;
+  actions = erases (matched (the 2)) ∷ [];
+}
+
+abbrev fuse_body : List Stmt
+fuse_body =
+    let_be (codes "a") (op_at 1 (codes "t.a") None [] None)
+    ∷ let_be (codes "b") (op_at 2 (codes "t.b") (Some (name (codes "a") ∷ [])) [] None)
+    ∷ let_be (codes "root") (op_at 3 (codes "t.c") (Some (name (codes "b") ∷ [])) [] None)
+    ∷ plain (call (codes "HasOneUse") (member (name (codes "a")) 0 ∷ []))
+    ∷ stmt 0 (replace_stmt (name (codes "root")) (One (op_at 4 (codes "t.abc") None [] None)))
+    ∷ []
+
+abbrev fuse_file : PatFile
+fuse_file = record { decls =
+    constraint (codes "HasOneUse") (param (codes "v") (value_ref no_expr ∷ []) ∷ []) body.Absent
+    ∷ decl.Pattern (pattern (codes "Fuse") [] (braces fuse_body))
+    ∷ decl.Pattern (pattern (codes "Drop") [] (body.One (stmt 0 (erase_stmt (op_at 9 (codes "t.dead") None [] None)))))
+    ∷ [] }
+
+fuses : patterns fuse_file ≡ fuse ∷ drop_dead ∷ []
+unfolding patterns expanded
+fuses = refl
+
+-- Constraint IsInt(a: Attr);
+-- Rewrite AddInt(a: Attr, b: Attr) -> Attr;
+-- Pattern Fold {
+--   let x = op<t.const> {value = a: Attr};
+--   let y = op<t.const> {value = b: Attr};
+--   let root = op<t.add>(x, y);
+--   IsInt(a);
+--   IsInt(b);
+--   replace root with op<t.const> {value = AddInt(a, b)};
+-- }
+abbrev pub fold : Pattern
+fold = record {
+  name = codes "Fold"; benefit = 1;
+  kinds = kind.Values ∷ kind.Attr ∷ kind.Tys ∷ kind.Op ∷ kind.Values ∷ kind.Attr ∷ kind.Tys ∷ kind.Op ∷ kind.Tys ∷ kind.Op ∷ [];
+  places = 1 ∷ 2 ∷ 1 ∷ 1 ∷ 3 ∷ 4 ∷ 3 ∷ 3 ∷ 5 ∷ 5 ∷ [];
+  demands =
+      is_operation 3 (record { name = codes "t.const"; operands = the 0 ∷ []; entries = (codes "value", the 1) ∷ []; types = the 2 ∷ [] })
+      ∷ stands (the 3)
+      ∷ is_operation 7 (record { name = codes "t.const"; operands = the 4 ∷ []; entries = (codes "value", the 5) ∷ []; types = the 6 ∷ [] })
+      ∷ stands (the 7)
+      ∷ is_operation 9 (record { name = codes "t.add"; operands = only_result 3 ∷ only_result 7 ∷ []; entries = []; types = the 8 ∷ [] })
+      ∷ stands (the 9)
+      ∷ calls IsInt (the 1 ∷ [])
+      ∷ calls IsInt (the 5 ∷ [])
+      ∷ [];
+  root = 9;
+  actions =
+      makes (native AddInt (matched (the 1) ∷ matched (the 5) ∷ []))
+      ∷ makes (result_types_of (matched (the 9)))
+      ∷ makes (new_operation (record { name = codes "t.const"; operands = []; entries = (codes "value", made 0) ∷ []; types = made 1 ∷ [] }))
+      ∷ makes (results_of (made 2))
+      ∷ replaces (matched (the 9)) (made 3 ∷ [])
+      ∷ [];
+}
+
+abbrev constant : ℕ → ℕ → List ℕ → Syntax
+constant at var n = op_at at (codes "t.const") None (with_value (codes "value") (declared var n (attr_ref no_expr ∷ [])) ∷ []) None
+
+abbrev fold_body : List Stmt
+fold_body =
+    let_be (codes "x") (constant 1 2 (codes "a"))
+    ∷ let_be (codes "y") (constant 3 4 (codes "b"))
+    ∷ let_be (codes "root") (op_at 5 (codes "t.add") (Some (name (codes "x") ∷ name (codes "y") ∷ [])) [] None)
+    ∷ plain (call (codes "IsInt") (name (codes "a") ∷ []))
+    ∷ plain (call (codes "IsInt") (name (codes "b") ∷ []))
+    ∷ stmt 0 (replace_stmt (name (codes "root"))
+        (One (op_at 6 (codes "t.const") None (with_value (codes "value") (call (codes "AddInt") (name (codes "a") ∷ name (codes "b") ∷ [])) ∷ []) None)))
+    ∷ []
+
+abbrev fold_file : PatFile
+fold_file = record { decls =
+    constraint (codes "IsInt") (param (codes "a") (attr_ref no_expr ∷ []) ∷ []) body.Absent
+    ∷ rewrite (codes "AddInt") (param (codes "a") (attr_ref no_expr ∷ []) ∷ param (codes "b") (attr_ref no_expr ∷ []) ∷ []) (Some (attr_ref no_expr)) body.Absent
+    ∷ decl.Pattern (pattern (codes "Fold") [] (braces fold_body))
+    ∷ [] }
+
+folds : patterns fold_file ≡ fold ∷ []
+unfolding patterns expanded
+folds = refl
+
+-- ---- bodies
+
+-- Constraint NoRegions(o: Op);
+-- Constraint HasResult(o: Op<t.a>) { let r = o.0; NoRegions(o); }
+-- Rewrite Wrap(v: Value) -> Value { let w = op<t.w>(v) {flag} -> (); return w.0; }
+-- Pattern Bodies {
+--   let o: HasResult;
+--   let root = op<t.b>(o, v: Value<u: Type>) -> (u);
+--   replace root with (Wrap(v), o);
+-- }
+-- A body stands for its call: `o` is `Op<t.a>` by the parameter, and then come the demands of the body. In the rewrite the
+-- argument of `Wrap` is named, its body runs, and what it returns is used; then `o` stands for all its results.
+abbrev bodies_file : PatFile
+bodies_file = record { decls =
+    constraint (codes "NoRegions") (param (codes "o") (op_ref None ∷ []) ∷ []) body.Absent
+    ∷ constraint (codes "HasResult") (param (codes "o") (op_ref (Some (codes "t.a")) ∷ []) ∷ [])
+        (braces (let_be (codes "r") (member (name (codes "o")) 0) ∷ plain (call (codes "NoRegions") (name (codes "o") ∷ [])) ∷ []))
+    ∷ rewrite (codes "Wrap") (param (codes "v") (value_ref no_expr ∷ []) ∷ []) (Some (value_ref no_expr))
+        (braces (let_be (codes "w") (op_at 30 (codes "t.w") (Some (name (codes "v") ∷ [])) (entry 0 (codes "flag") no_expr ∷ []) (Some [])) ∷ stmt 0 (return_stmt (member (name (codes "w")) 0)) ∷ []))
+    ∷ decl.Pattern (pattern (codes "Bodies") [] (braces
+        (stmt 0 (let_stmt (a_name 50 (codes "o")) (a_ref (named_ref (codes "HasResult")) ∷ []) None)
+        ∷ let_be (codes "root") (op_at 60 (codes "t.b")
+            (Some (name (codes "o") ∷ declared 70 (codes "v") (value_ref (some_expr (declared 80 (codes "u") (type_ref ∷ []))) ∷ []) ∷ [])) [] (Some (name (codes "u") ∷ [])))
+        ∷ stmt 0 (replace_stmt (name (codes "root")) (Several (call (codes "Wrap") (name (codes "v") ∷ []) ∷ name (codes "o") ∷ [])))
+        ∷ [])))
+    ∷ [] }
+
+abbrev bodies : Pattern
+bodies = record {
+  name = codes "Bodies"; benefit = 1;
+  kinds = kind.Op ∷ kind.Ty ∷ kind.Value ∷ kind.Op ∷ [];
+  places = 50 ∷ 80 ∷ 70 ∷ 60 ∷ [];
+  demands =
+      has_name 0 (codes "t.a")
+      ∷ stands (the 0)
+      ∷ stands (result 0 0)
+      ∷ calls NoRegions (the 0 ∷ [])
+      ∷ has_type 2 (the 1)
+      ∷ is_operation 3 (record { name = codes "t.b"; operands = only_result 0 ∷ the 2 ∷ []; entries = []; types = the 1 ∷ [] })
+      ∷ stands (the 3)
+      ∷ [];
+  root = 3;
+  actions =
+      makes (new_operation (record { name = codes "t.w"; operands = matched (the 2) ∷ []; entries = (codes "flag", matched (attr_literal unit)) ∷ []; types = [] }))
+      ∷ makes (result_of (made 0) 0)
+      ∷ makes (results_of (matched (the 0)))
+      ∷ replaces (matched (the 3)) (made 1 ∷ made 2 ∷ [])
+      ∷ [];
+}
+
+bodies_stand : patterns bodies_file ≡ bodies ∷ []
+unfolding patterns expanded
+bodies_stand = refl

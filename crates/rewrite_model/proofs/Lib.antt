@@ -1,0 +1,4 @@
+pub mod Samples
+mod Examples
+mod ExpandingExamples
+mod LogExamples
