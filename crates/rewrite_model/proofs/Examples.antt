@@ -1,8 +1,7 @@
 -- Small modules on which the checker computes matches and steps.
-use Rattle.std.specs.Prelude.{◌≡◌, ℕ, Bool, true, false, List, [], ◌∷◌, Option, Some, None, Ok, Err, codes}
-use Rattle.std.proofs.Common.{refl, arith}
+use Rattle.std.specs.Prelude.{◌≡◌, ℕ, true, false, List, [], ◌∷◌, Some, Ok, Err, codes}
+use Rattle.std.proofs.Common.{refl}
 use Rattle.mlir_resolve.specs.BadUses.{bad_use}
-use Rattle.mlir_tree.specs.declared.row.Home.{Home}
 use Rattle.mlir_tree.specs.declared.row.Row.{Row}
 use Rattle.mlir_tree.specs.declared.rows.Rows.{Rows}
 use Rattle.mlir_tree.specs.declared.value.Val.TheVariants.{Res}
@@ -16,7 +15,7 @@ use Rattle.rewrite_model.specs.Things.{Thing, an_op, a_value, some_values, an_at
 use Rattle.rewrite_model.specs.Matching.{MatchesBy}
 use Rattle.rewrite_model.specs.Making.{breaks}
 use Rattle.rewrite_model.specs.Step.{rewritten, step, made_numbers, removed_numbers}
-use Rattle.rewrite_model.proofs.Samples.{op, top, module_of, i8, i32, integer}
+use Rattle.rewrite_model.proofs.Samples.{op, module_of, i8, i32, integer}
 use Rattle.rewrite_model.proofs.ExpandingExamples.{reshape_reshape, low, high, same, self_use, swap, two, fuse, drop_dead, fold}
 
 -- ---- a reshape of a reshape
@@ -140,10 +139,19 @@ a_twice_given = some_values [] ∷ some_types (i32 ∷ []) ∷ an_op 1 ∷ some_
 two_match : MatchesBy a_twice.rows two a_twice_given 2
 two_match = record {
   assigned = record { kinds_fit = refl; are_things = refl };
-  holds =
-      ((_, refl, record { name = refl; operands = refl; entries = tt; types = refl }), ((_, refl)
-      , ((_, refl, record { name = refl; operands = refl; entries = tt; types = refl }), ((_, refl)
-      , ((_, refl, record { name = refl; operands = refl; entries = tt; types = refl }), ((_, refl), tt))))));
+  holds = (
+    (_, refl, record { name = refl; operands = refl; entries = tt; types = refl }),
+    (
+      (_, refl),
+      (
+        (_, refl, record { name = refl; operands = refl; entries = tt; types = refl }),
+        (
+          (_, refl),
+          ((_, refl, record { name = refl; operands = refl; entries = tt; types = refl }), ((_, refl), tt)),
+        ),
+      ),
+    ),
+  );
   root = refl;
 }
 
@@ -155,7 +163,10 @@ removed_twice = refl
 -- Pattern => erase op<builtin.module>;
 abbrev erase_module : Pattern
 erase_module = record {
-  name = []; benefit = 1; kinds = kind.Values ∷ kind.Tys ∷ kind.Op ∷ []; places = 18 ∷ 18 ∷ 18 ∷ [];
+  name = [];
+  benefit = 1;
+  kinds = kind.Values ∷ kind.Tys ∷ kind.Op ∷ [];
+  places = 18 ∷ 18 ∷ 18 ∷ [];
   demands = is_operation 2 (record { name = codes "builtin.module"; operands = the 0 ∷ []; entries = []; types = the 1 ∷ [] }) ∷ [];
   root = 2;
   actions = erases (matched (the 2)) ∷ [];
@@ -185,11 +196,25 @@ fuse_given = some_values [] ∷ some_types (i32 ∷ []) ∷ an_op 1 ∷ some_typ
 fuse_match : MatchesBy (with_dead []).rows fuse fuse_given 3
 fuse_match = record {
   assigned = record { kinds_fit = refl; are_things = refl };
-  holds =
-      ((_, refl, record { name = refl; operands = refl; entries = tt; types = refl }), ((_, refl)
-      , ((_, refl, record { name = refl; operands = refl; entries = tt; types = refl }), ((_, refl)
-      , ((_, refl, record { name = refl; operands = refl; entries = tt; types = refl }), ((_, refl)
-      , ((_, refl, refl), tt)))))));
+  holds = (
+    (_, refl, record { name = refl; operands = refl; entries = tt; types = refl }),
+    (
+      (_, refl),
+      (
+        (_, refl, record { name = refl; operands = refl; entries = tt; types = refl }),
+        (
+          (_, refl),
+          (
+            (_, refl, record { name = refl; operands = refl; entries = tt; types = refl }),
+            (
+              (_, refl),
+              ((_, refl, refl), tt),
+            ),
+          ),
+        ),
+      ),
+    ),
+  );
   root = refl;
 }
 
@@ -230,11 +255,25 @@ sums_given v =
 sums_match : MatchesBy (sums (integer false 50 i8)).rows fold (sums_given (integer false 50 i8)) 3
 sums_match = record {
   assigned = record { kinds_fit = refl; are_things = refl };
-  holds =
-      ((_, refl, record { name = refl; operands = refl; entries = ((_, refl, refl), tt); types = refl }), ((_, refl)
-      , ((_, refl, record { name = refl; operands = refl; entries = ((_, refl, refl), tt); types = refl }), ((_, refl)
-      , ((_, refl, record { name = refl; operands = refl; entries = tt; types = refl }), ((_, refl)
-      , ((_, refl, refl), ((_, refl, refl), tt))))))));
+  holds = (
+    (_, refl, record { name = refl; operands = refl; entries = ((_, refl, refl), tt); types = refl }),
+    (
+      (_, refl),
+      (
+        (_, refl, record { name = refl; operands = refl; entries = ((_, refl, refl), tt); types = refl }),
+        (
+          (_, refl),
+          (
+            (_, refl, record { name = refl; operands = refl; entries = tt; types = refl }),
+            (
+              (_, refl),
+              ((_, refl, refl), ((_, refl, refl), tt)),
+            ),
+          ),
+        ),
+      ),
+    ),
+  );
   root = refl;
 }
 

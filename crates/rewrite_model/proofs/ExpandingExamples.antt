@@ -1,5 +1,5 @@
 -- Pattern files of which the checker computes the patterns.
-use Rattle.std.specs.Prelude.{◌≡◌, ℕ, List, [], ◌∷◌, Option, Some, None, codes}
+use Rattle.std.specs.Prelude.{◌≡◌, ℕ, List, [], ◌∷◌, Some, None, codes}
 use Rattle.std.proofs.Common.{refl}
 use Rattle.mlir_tree.specs.Tree.{unit}
 use Rattle.pdll_syntax.specs.declared.stmt.Values.TheVariants.{One, Several}
@@ -7,14 +7,14 @@ use Rattle.pdll_syntax.specs.declared.stmt.Body.TheVariants as body
 use Rattle.pdll_syntax.specs.declared.file.PatFile.{PatFile}
 use Rattle.pdll_syntax.specs.declared.file.Decl.TheVariants as decl
 use Rattle.pdll_syntax.specs.declared.file.MetaForm.TheVariants.{Benefit}
-use Rattle.pdll_syntax.specs.ExprTree.{Expr as Syntax, attr_ref, op_ref, type_ref, value_ref, value_range_ref, named_ref, no_expr, some_expr, entry}
+use Rattle.pdll_syntax.specs.ExprTree.{Expr as Syntax, attr_ref, op_ref, type_ref, value_ref, named_ref, no_expr, some_expr, entry}
 use Rattle.pdll_syntax.specs.StmtTree.{Stmt, stmt, let_stmt, erase_stmt, return_stmt, replace_stmt, rewrite_stmt, stmts}
 use Rattle.native_set.specs.declared.native.Kind.TheVariants as kind
 use Rattle.native_set.specs.declared.native.Constraint.TheVariants.{HasOneUse, IsInt, NoRegions}
 use Rattle.native_set.specs.declared.native.Rewrite.TheVariants.{AddInt}
-use Rattle.rewrite_model.specs.Pattern.{the, attr_literal, result, only_result, is_operation, has_name, has_type, stands, calls, matched, made, new_operation, result_of, only_result_of, results_of, result_types_of, native, makes, replaces, erases, Pattern}
-use Rattle.rewrite_model.specs.Expanding.{expanded, patterns, constraint_scene}
-use Rattle.rewrite_model.specs.Size.{Size, expanded_size}
+use Rattle.rewrite_model.specs.Pattern.{the, attr_literal, result, only_result, is_operation, has_name, has_type, stands, calls, matched, made, new_operation, result_of, results_of, result_types_of, native, makes, replaces, erases, Pattern}
+use Rattle.rewrite_model.specs.Expanding.{expanded, patterns}
+use Rattle.rewrite_model.specs.Size.{expanded_size}
 use Rattle.rewrite_model.proofs.Samples.{a_ref, name, member, call, declared, op_at, with_value, a_name, let_be, plain, pattern, braces, param, constraint, rewrite}
 
 -- Pattern ReshapeReshape {
@@ -64,7 +64,10 @@ reshape_size = refl
 -- Pattern Low => erase op<t.a>;
 abbrev pub low : Pattern
 low = record {
-  name = codes "Low"; benefit = 1; kinds = kind.Values ∷ kind.Tys ∷ kind.Op ∷ []; places = 21 ∷ 21 ∷ 21 ∷ [];
+  name = codes "Low";
+  benefit = 1;
+  kinds = kind.Values ∷ kind.Tys ∷ kind.Op ∷ [];
+  places = 21 ∷ 21 ∷ 21 ∷ [];
   demands = is_operation 2 (record { name = codes "t.a"; operands = the 0 ∷ []; entries = []; types = the 1 ∷ [] }) ∷ [];
   root = 2;
   actions = erases (matched (the 2)) ∷ [];
@@ -73,7 +76,10 @@ low = record {
 -- Pattern High with benefit(10) { let r = op<t.a>; rewrite r with { op<t.b> -> (); erase r; }; }
 abbrev pub high : Pattern
 high = record {
-  name = codes "High"; benefit = 10; kinds = kind.Values ∷ kind.Tys ∷ kind.Op ∷ []; places = 65 ∷ 65 ∷ 65 ∷ [];
+  name = codes "High";
+  benefit = 10;
+  kinds = kind.Values ∷ kind.Tys ∷ kind.Op ∷ [];
+  places = 65 ∷ 65 ∷ 65 ∷ [];
   demands = is_operation 2 (record { name = codes "t.a"; operands = the 0 ∷ []; entries = []; types = the 1 ∷ [] }) ∷ stands (the 2) ∷ [];
   root = 2;
   actions = makes (new_operation (record { name = codes "t.b"; operands = []; entries = []; types = [] })) ∷ erases (matched (the 2)) ∷ [];
@@ -86,10 +92,12 @@ high_body =
     ∷ []
 
 abbrev low_and_high : PatFile
-low_and_high = record { decls =
-    decl.Pattern (pattern (codes "Low") [] (body.One (stmt 0 (erase_stmt (op_at 21 (codes "t.a") None [] None)))))
-    ∷ decl.Pattern (pattern (codes "High") (record { at = 0; form = Benefit 10 } ∷ []) (braces high_body))
-    ∷ [] }
+low_and_high = record {
+  decls =
+      decl.Pattern (pattern (codes "Low") [] (body.One (stmt 0 (erase_stmt (op_at 21 (codes "t.a") None [] None)))))
+      ∷ decl.Pattern (pattern (codes "High") (record { at = 0; form = Benefit 10 } ∷ []) (braces high_body))
+      ∷ [];
+}
 
 two_patterns : patterns low_and_high ≡ low ∷ high ∷ []
 unfolding patterns expanded
@@ -98,7 +106,10 @@ two_patterns = refl
 -- Pattern Same => replace op<t.sub>(x: Value, x) with op<t.zero>;
 abbrev pub same : Pattern
 same = record {
-  name = codes "Same"; benefit = 1; kinds = kind.Value ∷ kind.Tys ∷ kind.Op ∷ []; places = 32 ∷ 24 ∷ 24 ∷ [];
+  name = codes "Same";
+  benefit = 1;
+  kinds = kind.Value ∷ kind.Tys ∷ kind.Op ∷ [];
+  places = 32 ∷ 24 ∷ 24 ∷ [];
   demands = is_operation 2 (record { name = codes "t.sub"; operands = the 0 ∷ the 0 ∷ []; entries = []; types = the 1 ∷ [] }) ∷ [];
   root = 2;
   actions =
@@ -118,7 +129,10 @@ same_stmt = refl
 -- Pattern Self { let root = op<t.a>; replace root with op<t.x>(root.0); }
 abbrev pub self_use : Pattern
 self_use = record {
-  name = codes "Self"; benefit = 1; kinds = kind.Values ∷ kind.Tys ∷ kind.Op ∷ []; places = 26 ∷ 26 ∷ 26 ∷ [];
+  name = codes "Self";
+  benefit = 1;
+  kinds = kind.Values ∷ kind.Tys ∷ kind.Op ∷ [];
+  places = 26 ∷ 26 ∷ 26 ∷ [];
   demands = is_operation 2 (record { name = codes "t.a"; operands = the 0 ∷ []; entries = []; types = the 1 ∷ [] }) ∷ stands (the 2) ∷ [];
   root = 2;
   actions =
@@ -140,7 +154,10 @@ self_stmts = refl
 -- Pattern Swap { let inner = op<t.a>; let root = op<t.b>(inner); rewrite root with { replace inner with op<t.c>; }; }
 abbrev pub swap : Pattern
 swap = record {
-  name = codes "Swap"; benefit = 1; kinds = kind.Values ∷ kind.Tys ∷ kind.Op ∷ kind.Tys ∷ kind.Op ∷ []; places = 1 ∷ 1 ∷ 1 ∷ 2 ∷ 2 ∷ [];
+  name = codes "Swap";
+  benefit = 1;
+  kinds = kind.Values ∷ kind.Tys ∷ kind.Op ∷ kind.Tys ∷ kind.Op ∷ [];
+  places = 1 ∷ 1 ∷ 1 ∷ 2 ∷ 2 ∷ [];
   demands =
       is_operation 2 (record { name = codes "t.a"; operands = the 0 ∷ []; entries = []; types = the 1 ∷ [] })
       ∷ stands (the 2)
@@ -167,7 +184,8 @@ swap_stmts = refl
 -- Pattern Two { let x = op<t.a>; let y = op<t.a>; let root = op<t.b>(x, y); rewrite root with { erase root; erase x; erase y; }; }
 abbrev pub two : Pattern
 two = record {
-  name = codes "Two"; benefit = 1;
+  name = codes "Two";
+  benefit = 1;
   kinds = kind.Values ∷ kind.Tys ∷ kind.Op ∷ kind.Values ∷ kind.Tys ∷ kind.Op ∷ kind.Tys ∷ kind.Op ∷ [];
   places = 1 ∷ 1 ∷ 1 ∷ 2 ∷ 2 ∷ 2 ∷ 3 ∷ 3 ∷ [];
   demands =
@@ -205,7 +223,8 @@ two_stmts = refl
 -- Pattern Drop => erase op<t.dead>;
 abbrev pub fuse : Pattern
 fuse = record {
-  name = codes "Fuse"; benefit = 1;
+  name = codes "Fuse";
+  benefit = 1;
   kinds = kind.Values ∷ kind.Tys ∷ kind.Op ∷ kind.Tys ∷ kind.Op ∷ kind.Tys ∷ kind.Op ∷ [];
   places = 1 ∷ 1 ∷ 1 ∷ 2 ∷ 2 ∷ 3 ∷ 3 ∷ [];
   demands =
@@ -228,7 +247,10 @@ fuse = record {
 
 abbrev pub drop_dead : Pattern
 drop_dead = record {
-  name = codes "Drop"; benefit = 1; kinds = kind.Values ∷ kind.Tys ∷ kind.Op ∷ []; places = 9 ∷ 9 ∷ 9 ∷ [];
+  name = codes "Drop";
+  benefit = 1;
+  kinds = kind.Values ∷ kind.Tys ∷ kind.Op ∷ [];
+  places = 9 ∷ 9 ∷ 9 ∷ [];
   demands = is_operation 2 (record { name = codes "t.dead"; operands = the 0 ∷ []; entries = []; types = the 1 ∷ [] }) ∷ [];
   root = 2;
   actions = erases (matched (the 2)) ∷ [];
@@ -244,11 +266,13 @@ fuse_body =
     ∷ []
 
 abbrev fuse_file : PatFile
-fuse_file = record { decls =
-    constraint (codes "HasOneUse") (param (codes "v") (value_ref no_expr ∷ []) ∷ []) body.Absent
-    ∷ decl.Pattern (pattern (codes "Fuse") [] (braces fuse_body))
-    ∷ decl.Pattern (pattern (codes "Drop") [] (body.One (stmt 0 (erase_stmt (op_at 9 (codes "t.dead") None [] None)))))
-    ∷ [] }
+fuse_file = record {
+  decls =
+      constraint (codes "HasOneUse") (param (codes "v") (value_ref no_expr ∷ []) ∷ []) body.Absent
+      ∷ decl.Pattern (pattern (codes "Fuse") [] (braces fuse_body))
+      ∷ decl.Pattern (pattern (codes "Drop") [] (body.One (stmt 0 (erase_stmt (op_at 9 (codes "t.dead") None [] None)))))
+      ∷ [];
+}
 
 fuses : patterns fuse_file ≡ fuse ∷ drop_dead ∷ []
 unfolding patterns expanded
@@ -266,7 +290,8 @@ fuses = refl
 -- }
 abbrev pub fold : Pattern
 fold = record {
-  name = codes "Fold"; benefit = 1;
+  name = codes "Fold";
+  benefit = 1;
   kinds = kind.Values ∷ kind.Attr ∷ kind.Tys ∷ kind.Op ∷ kind.Values ∷ kind.Attr ∷ kind.Tys ∷ kind.Op ∷ kind.Tys ∷ kind.Op ∷ [];
   places = 1 ∷ 2 ∷ 1 ∷ 1 ∷ 3 ∷ 4 ∷ 3 ∷ 3 ∷ 5 ∷ 5 ∷ [];
   demands =
@@ -300,15 +325,17 @@ fold_body =
     ∷ plain (call (codes "IsInt") (name (codes "a") ∷ []))
     ∷ plain (call (codes "IsInt") (name (codes "b") ∷ []))
     ∷ stmt 0 (replace_stmt (name (codes "root"))
-        (One (op_at 6 (codes "t.const") None (with_value (codes "value") (call (codes "AddInt") (name (codes "a") ∷ name (codes "b") ∷ [])) ∷ []) None)))
+    (One (op_at 6 (codes "t.const") None (with_value (codes "value") (call (codes "AddInt") (name (codes "a") ∷ name (codes "b") ∷ [])) ∷ []) None)))
     ∷ []
 
 abbrev fold_file : PatFile
-fold_file = record { decls =
-    constraint (codes "IsInt") (param (codes "a") (attr_ref no_expr ∷ []) ∷ []) body.Absent
-    ∷ rewrite (codes "AddInt") (param (codes "a") (attr_ref no_expr ∷ []) ∷ param (codes "b") (attr_ref no_expr ∷ []) ∷ []) (Some (attr_ref no_expr)) body.Absent
-    ∷ decl.Pattern (pattern (codes "Fold") [] (braces fold_body))
-    ∷ [] }
+fold_file = record {
+  decls =
+      constraint (codes "IsInt") (param (codes "a") (attr_ref no_expr ∷ []) ∷ []) body.Absent
+      ∷ rewrite (codes "AddInt") (param (codes "a") (attr_ref no_expr ∷ []) ∷ param (codes "b") (attr_ref no_expr ∷ []) ∷ []) (Some (attr_ref no_expr)) body.Absent
+      ∷ decl.Pattern (pattern (codes "Fold") [] (braces fold_body))
+      ∷ [];
+}
 
 folds : patterns fold_file ≡ fold ∷ []
 unfolding patterns expanded
@@ -327,23 +354,26 @@ folds = refl
 -- A body stands for its call: `o` is `Op<t.a>` by the parameter, and then come the demands of the body. In the rewrite the
 -- argument of `Wrap` is named, its body runs, and what it returns is used; then `o` stands for all its results.
 abbrev bodies_file : PatFile
-bodies_file = record { decls =
-    constraint (codes "NoRegions") (param (codes "o") (op_ref None ∷ []) ∷ []) body.Absent
-    ∷ constraint (codes "HasResult") (param (codes "o") (op_ref (Some (codes "t.a")) ∷ []) ∷ [])
-        (braces (let_be (codes "r") (member (name (codes "o")) 0) ∷ plain (call (codes "NoRegions") (name (codes "o") ∷ [])) ∷ []))
-    ∷ rewrite (codes "Wrap") (param (codes "v") (value_ref no_expr ∷ []) ∷ []) (Some (value_ref no_expr))
-        (braces (let_be (codes "w") (op_at 30 (codes "t.w") (Some (name (codes "v") ∷ [])) (entry 0 (codes "flag") no_expr ∷ []) (Some [])) ∷ stmt 0 (return_stmt (member (name (codes "w")) 0)) ∷ []))
-    ∷ decl.Pattern (pattern (codes "Bodies") [] (braces
-        (stmt 0 (let_stmt (a_name 50 (codes "o")) (a_ref (named_ref (codes "HasResult")) ∷ []) None)
-        ∷ let_be (codes "root") (op_at 60 (codes "t.b")
-            (Some (name (codes "o") ∷ declared 70 (codes "v") (value_ref (some_expr (declared 80 (codes "u") (type_ref ∷ []))) ∷ []) ∷ [])) [] (Some (name (codes "u") ∷ [])))
-        ∷ stmt 0 (replace_stmt (name (codes "root")) (Several (call (codes "Wrap") (name (codes "v") ∷ []) ∷ name (codes "o") ∷ [])))
-        ∷ [])))
-    ∷ [] }
+bodies_file = record {
+  decls =
+      constraint (codes "NoRegions") (param (codes "o") (op_ref None ∷ []) ∷ []) body.Absent
+      ∷ constraint (codes "HasResult") (param (codes "o") (op_ref (Some (codes "t.a")) ∷ []) ∷ [])
+      (braces (let_be (codes "r") (member (name (codes "o")) 0) ∷ plain (call (codes "NoRegions") (name (codes "o") ∷ [])) ∷ []))
+      ∷ rewrite (codes "Wrap") (param (codes "v") (value_ref no_expr ∷ []) ∷ []) (Some (value_ref no_expr))
+      (braces (let_be (codes "w") (op_at 30 (codes "t.w") (Some (name (codes "v") ∷ [])) (entry 0 (codes "flag") no_expr ∷ []) (Some [])) ∷ stmt 0 (return_stmt (member (name (codes "w")) 0)) ∷ []))
+      ∷ decl.Pattern (pattern (codes "Bodies") [] (braces
+      (stmt 0 (let_stmt (a_name 50 (codes "o")) (a_ref (named_ref (codes "HasResult")) ∷ []) None)
+      ∷ let_be (codes "root") (op_at 60 (codes "t.b")
+      (Some (name (codes "o") ∷ declared 70 (codes "v") (value_ref (some_expr (declared 80 (codes "u") (type_ref ∷ []))) ∷ []) ∷ [])) [] (Some (name (codes "u") ∷ [])))
+      ∷ stmt 0 (replace_stmt (name (codes "root")) (Several (call (codes "Wrap") (name (codes "v") ∷ []) ∷ name (codes "o") ∷ [])))
+      ∷ [])))
+      ∷ [];
+}
 
 abbrev bodies : Pattern
 bodies = record {
-  name = codes "Bodies"; benefit = 1;
+  name = codes "Bodies";
+  benefit = 1;
   kinds = kind.Op ∷ kind.Ty ∷ kind.Value ∷ kind.Op ∷ [];
   places = 50 ∷ 80 ∷ 70 ∷ 60 ∷ [];
   demands =

@@ -2,3 +2,9 @@ pub mod Samples
 mod Examples
 mod ExpandingExamples
 mod LogExamples
+mod Told
+mod Unique
+mod Deciding
+mod OneRun
+mod SomeRun
+mod Courses

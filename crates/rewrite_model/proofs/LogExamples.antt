@@ -1,5 +1,5 @@
 -- Logs that the checker computes.
-use Rattle.std.specs.Prelude.{◌≡◌, ℕ, List, [], ◌∷◌, codes}
+use Rattle.std.specs.Prelude.{◌≡◌, ℕ, [], ◌∷◌, codes}
 use Rattle.std.proofs.Common.{refl}
 use Rattle.std.specs.Fmt.{digits}
 use Rattle.mlir_print.specs.Text.{string_text}
@@ -7,7 +7,6 @@ use Rattle.rewrite_model.specs.declared.run.Hit.{Hit}
 use Rattle.rewrite_model.specs.declared.run.Break.TheVariants.{NativeRefused, BadUse}
 use Rattle.rewrite_model.specs.declared.run.BoundKind.TheVariants.{Rewrites, SlotLimit}
 use Rattle.rewrite_model.specs.declared.run.Ending.TheVariants.{Converged, Bound, Broken}
-use Rattle.rewrite_model.specs.Taken.{Taken}
 use Rattle.rewrite_model.specs.LogText.{header, step_line, step_lines, ending_line, log_text}
 
 abbrev hit : ℕ → ℕ → Hit

@@ -1,23 +1,20 @@
 -- Short ways to write trees of pattern files, patterns and modules, for worked examples.
 use Rattle.std.specs.Prelude.{ℕ, Bool, List, [], ◌∷◌, map, Option, Some, None, codes}
 use Rattle.mlir_tree.specs.declared.sign.Sign.TheVariants.{Signless}
-use Rattle.mlir_tree.specs.declared.row.Home.{Home}
 use Rattle.mlir_tree.specs.declared.row.Row.{Row}
 use Rattle.mlir_tree.specs.declared.rows.Rows.{Rows}
-use Rattle.mlir_tree.specs.declared.number.Number.{Number}
 use Rattle.mlir_tree.specs.declared.value.Val.{Val}
-use Rattle.mlir_tree.specs.Tree.{Ty, int, word, Attr, int_attr}
+use Rattle.mlir_tree.specs.Tree.{Ty, int, Attr, int_attr}
 use Rattle.pdll_syntax.specs.declared.name.Name.{Name}
 use Rattle.pdll_syntax.specs.declared.stmt.Body.{Body}
-use Rattle.pdll_syntax.specs.declared.stmt.Body.TheVariants.{Absent, Braces, One, Value}
+use Rattle.pdll_syntax.specs.declared.stmt.Body.TheVariants.{Braces}
 use Rattle.pdll_syntax.specs.declared.stmt.Param.{Param}
 use Rattle.pdll_syntax.specs.declared.file.Decl.{Decl}
 use Rattle.pdll_syntax.specs.declared.file.Decl.TheVariants as decl
 use Rattle.pdll_syntax.specs.declared.file.PatternDecl.{PatternDecl}
-use Rattle.pdll_syntax.specs.declared.file.CallDecl.{CallDecl}
 use Rattle.pdll_syntax.specs.declared.file.Meta.{Meta}
 use Rattle.pdll_syntax.specs.ExprTree.{Expr as Syntax, expr, name_expr, call_expr, declare_expr, op_expr, member_expr, operation, Entry, entry, Ref, ref, RefForm, exprs, entries, refs, maybe_expr, maybe_exprs}
-use Rattle.pdll_syntax.specs.StmtTree.{Stmt, stmt, let_stmt, erase_stmt, replace_stmt, rewrite_stmt, plain_stmt, stmts}
+use Rattle.pdll_syntax.specs.StmtTree.{Stmt, stmt, let_stmt, plain_stmt}
 
 -- ---- trees; places count only where a word is declared or an operation begins
 

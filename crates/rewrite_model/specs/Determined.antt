@@ -1,9 +1,9 @@
 -- Which variables and operation expressions are determined, so that no more than one choice fits them.
-use Rattle.std.specs.Prelude.{◌≡◌, ◌⊎◌, ℕ, ◌<◌, ◌≤◌, Bool, true, false, List, [], ◌∷◌, map, length, slice_get, count_by, Option, Some, None, ⊤}
+use Rattle.std.specs.Prelude.{◌≡◌, ◌⊎◌, ℕ, ◌+◌, ◌<◌, ◌≤◌, Bool, true, false, if◌then◌else◌, List, [], ◌∷◌, map, length, slice_get, Option, Some, ⊤}
 use Rattle.std.specs.List.{AllByRecursion, range_with_len}
 use Rattle.native_set.specs.declared.native.Kind.{Kind}
 use Rattle.native_set.specs.declared.native.Kind.TheVariants as kind
-use Rattle.rewrite_model.specs.Pattern.{Operation, Expr, the, attr_literal, type_literal, result, only_result, Demand, is_operation, has_name, has_type, stands, calls, Pattern}
+use Rattle.rewrite_model.specs.Pattern.{Operation, Expr, the, attr_literal, type_literal, result, only_result, Demand, is_operation, has_type, Pattern}
 use Rattle.rewrite_model.specs.MatchPart.{Scene}
 
 abbrev pub IsIn : {X : Type 0} → X → List X → Type 0
@@ -50,8 +50,13 @@ is_range_kind k = false
 abbrev pub is_range : List Kind → Expr → Bool
 is_range ks e = is_range_kind (kind_in ks e)
 
+abbrev pub ranges : List Kind → List Expr → ℕ
+ranges ks [] = 0
+ranges ks (e ∷ es) = (if is_range ks e then 1 else 0) + ranges ks es
+
+-- At most one does.
 abbrev pub HasOneRange : List Kind → List Expr → Type 0
-HasOneRange ks es = count_by (is_range ks) es ≤ 1
+HasOneRange ks es = ranges ks es ≤ 1
 
 abbrev pub KeepsOneRange : List Kind → Demand → Type 0
 KeepsOneRange ks (is_operation x o) = HasOneRange ks o.operands × HasOneRange ks o.types

@@ -1,6 +1,6 @@
 -- The patterns of a file, with each call of a declared constraint or rewrite replaced by its body (PDLL document,
 -- "Patterns", "Constraints", "Rewrites"). What is written here of files that aren't accepted means nothing.
-use Rattle.std.specs.Prelude.{ℕ, zero, suc, List, [], ◌∷◌, map, Bool, true, false, Option, Some, None, option_map, option_and_then}
+use Rattle.std.specs.Prelude.{ℕ, List, [], ◌∷◌, map, Bool, true, false, Option, Some, None, option_map, option_and_then}
 use Rattle.std.specs.Option.{option_map_or}
 use Rattle.std.specs.Str.{bytes_eq}
 use Rattle.pdll_syntax.specs.declared.name.Name.{Name}
@@ -16,13 +16,13 @@ use Rattle.pdll_syntax.specs.declared.file.Meta.{Meta}
 use Rattle.pdll_syntax.specs.declared.file.MetaForm.{MetaForm}
 use Rattle.pdll_syntax.specs.declared.file.MetaForm.TheVariants.{Benefit, Recursion}
 use Rattle.pdll_syntax.specs.ExprTree.{Expr as Syntax}
-use Rattle.pdll_syntax.specs.StmtTree.{Stmt, stmt, StmtForm, let_stmt, erase_stmt, return_stmt, replace_stmt, rewrite_stmt, plain_stmt, stmt_list}
+use Rattle.pdll_syntax.specs.StmtTree.{Stmt, stmt, StmtForm, erase_stmt, replace_stmt, rewrite_stmt, stmt_list}
 use Rattle.native_set.specs.declared.native.Kind.{Kind}
 use Rattle.native_set.specs.declared.native.Kind.TheVariants as kind
 use Rattle.native_set.specs.declared.native.Constraint.{Constraint}
 use Rattle.native_set.specs.declared.native.Rewrite.{Rewrite}
 use Rattle.native_set.specs.Table.{constraint_of, rewrite_of}
-use Rattle.rewrite_model.specs.Pattern.{Expr, the, stands, calls, Part, matched, native, replaces, erases, Pattern}
+use Rattle.rewrite_model.specs.Pattern.{Expr, the, stands, calls, Part, matched, native, erases, Pattern}
 use Rattle.rewrite_model.specs.Doing.{Doing, ◌>>=◌, ◌>>◌, pure, for_each}
 use Rattle.rewrite_model.specs.Names.{Written, of_kind, ref_kind, Meant, Names, named_together}
 use Rattle.rewrite_model.specs.MatchPart.{Scene, empty, Constrains, meant, new_number, ask, see_name, number_of, call_refs, kind_of_refs, expression, plain, statement}

@@ -5,7 +5,7 @@ use Rattle.std.specs.List.{AllByRecursion}
 use Rattle.mlir_tree.specs.declared.row.Row.{Row}
 use Rattle.mlir_tree.specs.declared.value.Val.{Val}
 use Rattle.mlir_tree.specs.declared.value.Val.TheVariants.{Res, Arg}
-use Rattle.mlir_tree.specs.Tree.{Ty, Attr}
+use Rattle.mlir_tree.specs.Tree.{Attr}
 use Rattle.mlir_tree.specs.Range.{attr_type}
 use Rattle.mlir_tree.specs.Module.{row_of, home_of}
 use Rattle.mlir_tree.specs.Edits.{attribute_of, val_eq}

@@ -14,3 +14,4 @@ pub mod Making
 pub mod Step
 pub mod Running
 pub mod LogText
+pub mod Laws

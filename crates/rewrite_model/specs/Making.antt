@@ -1,6 +1,6 @@
 -- What the actions of a rewrite do to a module, one after another (PDLL document, "Rewrites"; pdl dialect, "pdl.replace",
 -- "pdl.erase"). The breaks and their order are this project's.
-use Rattle.std.specs.Prelude.{◌≡◌, ℕ, ◌+◌, Bool, true, false, not, ◌&&◌, nat_eq, nat_le, nat_lt, if◌then◌else◌, List, [], ◌∷◌, ◌++◌, map, length, sum_by, slice_get, Option, Some, None, option_map, option_and_then, Result, Ok, Err}
+use Rattle.std.specs.Prelude.{ℕ, ◌+◌, Bool, true, false, not, ◌&&◌, nat_eq, nat_le, if◌then◌else◌, List, [], ◌∷◌, ◌++◌, map, length, sum_by, slice_get, Option, Some, None, option_map, option_and_then, Result, Ok, Err}
 use Rattle.std.specs.List.{list_all, range_with_len}
 use Rattle.std.specs.Cmp.Lexicographic.{pointwise}
 use Rattle.std.specs.Ordering.{is_lt}
@@ -21,7 +21,7 @@ use Rattle.rewrite_model.specs.declared.run.Break.TheVariants.{Gone, Count, Type
 use Rattle.rewrite_model.specs.declared.run.BoundKind.{BoundKind}
 use Rattle.rewrite_model.specs.declared.run.BoundKind.TheVariants.{RowLimit, SlotLimit}
 use Rattle.rewrite_model.specs.Pattern.{Operation, Part, matched, made, Making, new_operation, result_of, only_result_of, results_of, result_types_of, native, Action, makes, replaces, erases}
-use Rattle.rewrite_model.specs.Things.{Thing, an_op, a_value, some_values, an_attr, some_types, row_at, result_at, only_result_at, type_of, values_in, types_in, attr_in, concatenated, each, denoted}
+use Rattle.rewrite_model.specs.Things.{Thing, an_op, some_values, an_attr, some_types, row_at, result_at, only_result_at, type_of, values_in, types_in, attr_in, concatenated, each, denoted}
 
 -- What ends a step before its time.
 pub data Stop : Type 0 where

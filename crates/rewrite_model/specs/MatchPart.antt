@@ -6,11 +6,10 @@ use Rattle.mlir_parse.specs.declared.fault.ModFault.{ModFault}
 use Rattle.mlir_parse.specs.Attributes.{attr_of}
 use Rattle.mlir_parse.specs.Types.{type_of}
 use Rattle.pdll_syntax.specs.ExprTree.{Expr as Syntax, expr, ExprForm, name_expr, call_expr, declare_expr, attr_expr, type_expr, op_expr, member_expr, OpExpr, operation, Entry, entry, Ref, ref, RefForm, attr_ref, op_ref, type_ref, type_range_ref, value_ref, value_range_ref, named_ref, Exprs, no_exprs, expr_then, Entries, no_entries, entry_then, Refs, no_refs, ref_then, MaybeExpr, no_expr, some_expr, MaybeExprs, left_out, written, refs, ref_list}
-use Rattle.pdll_syntax.specs.StmtTree.{Stmt, stmt, StmtForm, let_stmt, erase_stmt, return_stmt, replace_stmt, rewrite_stmt, plain_stmt}
-use Rattle.pdll_syntax.specs.declared.name.Name.{Name}
+use Rattle.pdll_syntax.specs.StmtTree.{Stmt, stmt, let_stmt, plain_stmt}
 use Rattle.native_set.specs.declared.native.Kind.{Kind}
 use Rattle.native_set.specs.declared.native.Kind.TheVariants as kind
-use Rattle.rewrite_model.specs.Pattern.{Operation, Expr, the, attr_literal, type_literal, result, only_result, Demand, is_operation, has_name, has_type, stands, calls}
+use Rattle.rewrite_model.specs.Pattern.{Expr, the, attr_literal, type_literal, result, only_result, Demand, is_operation, has_name, has_type, stands}
 use Rattle.rewrite_model.specs.Doing.{Doing, ◌>>=◌, ◌>>◌, pure, change, for_each}
 use Rattle.rewrite_model.specs.Names.{Written, ref_name, written_kind, Meant, Names, meaning}
 

@@ -1,16 +1,16 @@
 -- The rewrite of a pattern, and bodies of rewrites, as actions in the order of evaluation (PDLL document, "Rewrites",
 -- "erase Statement", "replace Statement"). What is written here of files that aren't accepted means nothing.
-use Rattle.std.specs.Prelude.{ℕ, ◌+◌, List, [], ◌∷◌, ◌++◌, Option, Some, None, Result}
+use Rattle.std.specs.Prelude.{ℕ, ◌+◌, List, [], ◌∷◌, ◌++◌, Option, Some, None}
 use Rattle.mlir_tree.specs.Tree.{unit}
 use Rattle.mlir_parse.specs.Attributes.{attr_of}
 use Rattle.mlir_parse.specs.Types.{type_of}
 use Rattle.pdll_syntax.specs.ExprTree.{Expr as Syntax, expr, ExprForm, name_expr, call_expr, declare_expr, attr_expr, type_expr, op_expr, member_expr, OpExpr, operation, Entry, entry, Exprs, no_exprs, expr_then, Entries, no_entries, entry_then, MaybeExpr, no_expr, some_expr, MaybeExprs, left_out, written}
-use Rattle.pdll_syntax.specs.StmtTree.{Stmt, stmt, StmtForm, let_stmt, erase_stmt, return_stmt, replace_stmt, rewrite_stmt, plain_stmt, Stmts, no_stmts, stmt_then}
+use Rattle.pdll_syntax.specs.StmtTree.{Stmt, stmt, StmtForm, let_stmt, erase_stmt, return_stmt, replace_stmt, plain_stmt}
 use Rattle.pdll_syntax.specs.declared.stmt.Values.{Values}
 use Rattle.pdll_syntax.specs.declared.stmt.Values.TheVariants.{One, Several}
 use Rattle.native_set.specs.declared.native.Kind.{Kind}
 use Rattle.native_set.specs.declared.native.Kind.TheVariants as kind
-use Rattle.rewrite_model.specs.Pattern.{Operation, Expr, attr_literal, type_literal, Part, matched, made, Making, new_operation, result_of, only_result_of, results_of, result_types_of, Action, makes, replaces, erases}
+use Rattle.rewrite_model.specs.Pattern.{attr_literal, type_literal, Part, matched, made, Making, new_operation, result_of, only_result_of, results_of, result_types_of, Action, makes, replaces, erases}
 use Rattle.rewrite_model.specs.Doing.{Doing, ◌>>=◌, ◌>>◌, pure, change}
 use Rattle.rewrite_model.specs.Names.{Meant, Names, meaning}
 use Rattle.rewrite_model.specs.MatchPart.{meant, literal_attr, literal_type}

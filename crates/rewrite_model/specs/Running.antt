@@ -1,17 +1,16 @@
 -- The run of patterns on a module. The order of steps is this project's.
-use Rattle.std.specs.Prelude.{◌≡◌, ◌⊎◌, ℕ, zero, suc, List, [], ◌∷◌, ◌++◌, slice_get, Some, Ok, Err}
+use Rattle.std.specs.Prelude.{◌≡◌, ℕ, zero, suc, List, [], ◌∷◌, ◌++◌, Ok, Err}
 use Rattle.std.specs.List.{AllByRecursion}
 use Rattle.mlir_tree.specs.declared.row.Row.{Row}
 use Rattle.mlir_tree.specs.declared.rows.Rows.{Rows}
 use Rattle.rewrite_model.specs.declared.run.Hit.{Hit}
-use Rattle.rewrite_model.specs.declared.run.Broken.{Broken as Breaking}
 use Rattle.rewrite_model.specs.declared.run.BoundKind.TheVariants.{Rewrites}
 use Rattle.rewrite_model.specs.declared.run.Ending.{Ending}
 use Rattle.rewrite_model.specs.declared.run.Ending.TheVariants.{Converged, Bound, Broken}
 use Rattle.rewrite_model.specs.Taken.{Taken}
 use Rattle.rewrite_model.specs.Pattern.{Pattern}
 use Rattle.rewrite_model.specs.Things.{Thing}
-use Rattle.rewrite_model.specs.Matching.{Matches, MatchesBy, NoneAt, IsBest}
+use Rattle.rewrite_model.specs.Matching.{MatchesBy, NoneAt, IsBest}
 use Rattle.rewrite_model.specs.Making.{Stop, breaks, bound}
 use Rattle.rewrite_model.specs.Step.{step, made_numbers, removed_numbers}
 

@@ -2,7 +2,6 @@
 use Rattle.std.specs.Prelude.{ℕ, ◌+◌, Bool, true, false, List, [], ◌∷◌, Option, Some, None}
 use Rattle.std.specs.Option.{option_map_or}
 use Rattle.std.specs.Str.{bytes_eq}
-use Rattle.pdll_syntax.specs.declared.name.Name.{Name}
 use Rattle.pdll_syntax.specs.declared.stmt.Body.{Body}
 use Rattle.pdll_syntax.specs.declared.stmt.Body.TheVariants as body
 use Rattle.pdll_syntax.specs.declared.stmt.Param.{Param}
@@ -10,7 +9,6 @@ use Rattle.pdll_syntax.specs.declared.stmt.Values.{Values}
 use Rattle.pdll_syntax.specs.declared.stmt.Values.TheVariants.{One, Several}
 use Rattle.pdll_syntax.specs.declared.file.Decl.{Decl}
 use Rattle.pdll_syntax.specs.declared.file.Decl.TheVariants as decl
-use Rattle.pdll_syntax.specs.declared.file.PatternDecl.{PatternDecl}
 use Rattle.pdll_syntax.specs.declared.file.CallDecl.{CallDecl}
 use Rattle.pdll_syntax.specs.ExprTree.{Expr, expr, ExprForm, name_expr, call_expr, declare_expr, attr_expr, type_expr, op_expr, member_expr, OpExpr, operation, Entry, entry, Ref, ref, RefForm, attr_ref, op_ref, type_ref, type_range_ref, value_ref, value_range_ref, named_ref, Exprs, no_exprs, expr_then, Entries, no_entries, entry_then, Refs, no_refs, ref_then, MaybeExpr, no_expr, some_expr, MaybeExprs, left_out, written, exprs, refs}
 use Rattle.pdll_syntax.specs.StmtTree.{Stmt, stmt, StmtForm, let_stmt, erase_stmt, return_stmt, replace_stmt, rewrite_stmt, plain_stmt, Stmts, no_stmts, stmt_then, stmts}

@@ -1,7 +1,6 @@
 -- One step: the actions of a pattern under the assignment of its match, and the test of the module that they leave.
-use Rattle.std.specs.Prelude.{ℕ, ◌-◌, Bool, not, ◌&&◌, ◌||◌, nat_le, List, [], length, filter, Option, Some, None, Result, Ok, Err}
+use Rattle.std.specs.Prelude.{ℕ, ◌-◌, Bool, not, ◌&&◌, ◌||◌, nat_le, List, [], length, filter, Option, Some, None, Ok, Err}
 use Rattle.std.specs.List.{range_with_len}
-use Rattle.mlir_tree.specs.declared.row.Row.{Row}
 use Rattle.mlir_tree.specs.declared.rows.Rows.{Rows}
 use Rattle.mlir_tree.specs.declared.bad_use.BadUse.{BadUse as Use}
 use Rattle.mlir_tree.specs.Module.{has_row}
@@ -9,7 +8,7 @@ use Rattle.mlir_resolve.specs.BadUses.{bad_use}
 use Rattle.rewrite_model.specs.declared.run.Break.TheVariants.{BadUse}
 use Rattle.rewrite_model.specs.Pattern.{Pattern}
 use Rattle.rewrite_model.specs.Things.{Thing}
-use Rattle.rewrite_model.specs.Making.{Stop, breaks, Start, Progress, Outcome, ◌>>=◌, all_slots, act_all}
+use Rattle.rewrite_model.specs.Making.{breaks, Start, Progress, Outcome, ◌>>=◌, all_slots, act_all}
 
 -- how far a step is before its first action
 abbrev pub begun : Rows → Progress

@@ -1,0 +1,50 @@
+-- What the definitions promise of one another.
+use Rattle.std.specs.Prelude.{◌≡◌, ◌⊎◌, ℕ, List, All, Ok}
+use Rattle.mlir_tree.specs.declared.row.Row.{Row}
+use Rattle.mlir_tree.specs.declared.rows.Rows.{Rows}
+use Rattle.mlir_tree.specs.WellFormed.{HasVisibleOperands}
+use Rattle.rewrite_model.specs.declared.run.Hit.{Hit}
+use Rattle.rewrite_model.specs.declared.run.Ending.TheVariants.{Converged}
+use Rattle.rewrite_model.specs.Pattern.{Pattern}
+use Rattle.rewrite_model.specs.Things.{Thing}
+use Rattle.rewrite_model.specs.Determined.{IsDetermined, AreDetermined}
+use Rattle.rewrite_model.specs.Matching.{MatchesBy, Matches}
+use Rattle.rewrite_model.specs.Taken.{KeepsOrder}
+use Rattle.rewrite_model.specs.Step.{step}
+use Rattle.rewrite_model.specs.Running.{Course, taken, NoneAmong, Runs}
+
+-- A pattern whose variables and operation expressions are all determined matches at an operation by at most one assignment.
+abbrev pub AtMostOneAssignment : Type 0
+AtMostOneAssignment =
+    (p : Pattern) → IsDetermined p
+    → (rows : List Row) (id : ℕ) (a b : List Thing) → MatchesBy rows p a id → MatchesBy rows p b id → a ≡ b
+
+-- Whether it matches there is decided.
+abbrev pub MatchesAreDecided : Type 0
+MatchesAreDecided = (p : Pattern) → IsDetermined p → (rows : List Row) (id : ℕ) → Matches rows p id ⊎ (Matches rows p id → ⊥)
+
+-- Of such patterns there is exactly one run from each module with each bound.
+abbrev pub OneRun : Type 0
+OneRun =
+    (ps : List Pattern) → AreDetermined ps
+    → (n : ℕ) (m : Rows) → (c : Course) × Runs ps n m c × ((d : Course) → Runs ps n m d → d ≡ c)
+
+-- Where a run has converged, no pattern matches at any operation that is left.
+abbrev pub ConvergedRunsMatchNowhere : Type 0
+ConvergedRunsMatchNowhere =
+    (ps : List Pattern) (n : ℕ) (m : Rows) (c : Course) → Runs ps n m c → c.ending ≡ Converged → NoneAmong ps c.rows.rows c.rows.rows
+
+abbrev pub HasVisibleUses : Rows → Type 0
+HasVisibleUses m = All (HasVisibleOperands m.rows) m.rows
+
+-- In the module after a step each operand exists and is visible.
+abbrev pub StepsKeepOperandsVisible : Type 0
+StepsKeepOperandsVisible = (p : Pattern) (a : List Thing) (id : ℕ) (m n : Rows) → step p a id m ≡ Ok n → HasVisibleUses n
+
+-- So it is in the module at the end of a run that begins at such a module.
+abbrev pub RunsKeepOperandsVisible : Type 0
+RunsKeepOperandsVisible = (ps : List Pattern) (n : ℕ) (m : Rows) (c : Course) → HasVisibleUses m → Runs ps n m c → HasVisibleUses c.rows
+
+-- The numbers that a step made rise, and so do those that it removed.
+abbrev pub NumbersRise : Type 0
+NumbersRise = (p : Pattern) (h : Hit) (m n : Rows) → KeepsOrder (taken p h m n)

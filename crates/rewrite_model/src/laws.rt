@@ -1,0 +1,39 @@
+//! Laws of the definitions. Each is a call that does nothing and promises the law.
+
+ghost use Rattle.rewrite_model.specs.Laws.{AtMostOneAssignment, MatchesAreDecided, OneRun, ConvergedRunsMatchNowhere, StepsKeepOperandsVisible, RunsKeepOperandsVisible, NumbersRise};
+
+/// A pattern whose variables and operation expressions are all determined, and whose lists have at most one range each,
+/// matches at an operation by at most one assignment.
+pub fn at_most_one_assignment()
+    ensures { AtMostOneAssignment }
+{}
+
+/// Whether such a pattern matches at an operation is decided.
+pub fn matches_are_decided()
+    ensures { MatchesAreDecided }
+{}
+
+/// There is exactly one run of such patterns.
+pub fn one_run()
+    ensures { OneRun }
+{}
+
+/// Where a run has converged, no pattern matches at any operation that is left.
+pub fn converged_runs_match_nowhere()
+    ensures { ConvergedRunsMatchNowhere }
+{}
+
+/// After a step each operand exists and is visible.
+pub fn steps_keep_operands_visible()
+    ensures { StepsKeepOperandsVisible }
+{}
+
+/// So it is after a run from a module in which it is so.
+pub fn runs_keep_operands_visible()
+    ensures { RunsKeepOperandsVisible }
+{}
+
+/// The numbers of the operations that a step made rise, and so do those of the operations that it removed.
+pub fn numbers_rise()
+    ensures { NumbersRise }
+{}
