@@ -20,9 +20,9 @@ use Rattle.native_set.specs.declared.native.Kind.{Kind}
 use Rattle.native_set.specs.declared.native.Constraint.{Constraint}
 use Rattle.native_set.specs.declared.native.Constraint.TheVariants.{HasOneUse, HasNoUse, IsInt, IsZero, SameBlock, NoRegions}
 use Rattle.native_set.specs.Arithmetic.{is_int, is_zero}
-use Rattle.rewrite_model.specs.Pattern.{Operation, Expr, Demand, is_operation, has_name, has_type, stands, calls, Pattern}
+use Rattle.rewrite_model.specs.Pattern.{Parts, Expr, Demand, has_parts, has_name, has_type, stands, calls, Pattern}
 use Rattle.rewrite_model.specs.Things.{Thing, an_op, a_value, some_values, an_attr, a_type, some_types, kind_of, is_thing, IsAssignment, each, concatenated, denoted, values_denoted, types_denoted}
-use Rattle.rewrite_model.specs.Holding.{HasEntry, IsDescribed, row_given, thing_type, uses, result_uses, NativeHolds, Holds}
+use Rattle.rewrite_model.specs.Holding.{HasEntry, HasParts, row_given, thing_type, uses, result_uses, NativeHolds, Holds}
 use Rattle.rewrite_model.specs.Matching.{MatchesBy, Matches}
 use Rattle.rewrite_model.specs.Laws.{MatchesAreDecided}
 use Rattle.rewrite_model.proofs.Told.{some_or}
@@ -174,16 +174,15 @@ module _ (rows : List Row) (a : List Thing) where
   entries : (r : Row) (e : List ℕ × Expr) → Decided (HasEntry rows a r e)
   entries r e = found (attribute_of r e.0) (λ v. denoted rows a e.1 ≡ Some (an_attr v)) (λ v. options things (denoted rows a e.1) (Some (an_attr v)))
 
-  described : (o : Operation Expr) (r : Row) → Decided (IsDescribed rows a o r)
-  described o r = by (texts r.name o.name) (options (lists vals) (concatenated (values_denoted rows a) o.operands) (Some r.operands))
+  described : (o : Parts Expr) (r : Row) → Decided (HasParts rows a o r)
+  described o r = by (options (lists vals) (concatenated (values_denoted rows a) o.operands) (Some r.operands))
       (all (HasEntry rows a r) (entries r) o.entries) (options (lists types) (concatenated (types_denoted rows a) o.types) (Some r.results)) where
-        by : Decided (r.name ≡ o.name) → Decided (concatenated (values_denoted rows a) o.operands ≡ Some r.operands) → Decided (AllByRecursion (HasEntry rows a r) o.entries)
-            → Decided (concatenated (types_denoted rows a) o.types ≡ Some r.results) → Decided (IsDescribed rows a o r)
-        by (inl n) (inl v) (inl e) (inl t) = inl (record { name = n; operands = v; entries = e; types = t })
-        by (inr q) v e t = inr (λ d. q d.name)
-        by (inl n) (inr q) e t = inr (λ d. q d.operands)
-        by (inl n) (inl v) (inr q) t = inr (λ d. q d.entries)
-        by (inl n) (inl v) (inl e) (inr q) = inr (λ d. q d.types)
+    by : Decided (concatenated (values_denoted rows a) o.operands ≡ Some r.operands) → Decided (AllByRecursion (HasEntry rows a r) o.entries)
+        → Decided (concatenated (types_denoted rows a) o.types ≡ Some r.results) → Decided (HasParts rows a o r)
+    by (inl v) (inl e) (inl t) = inl (record { operands = v; entries = e; types = t })
+    by (inr q) e t = inr (λ d. q d.operands)
+    by (inl v) (inr q) t = inr (λ d. q d.entries)
+    by (inl v) (inl e) (inr q) = inr (λ d. q d.types)
 
   natives : (c : Constraint) (ts : List Thing) → Decided (NativeHolds rows c ts)
   natives HasOneUse (a_value v ∷ []) = numbers (uses rows v) 1
@@ -195,7 +194,7 @@ module _ (rows : List Row) (a : List Thing) where
   natives c ts = inr (λ h. h)
 
   holding : (d : Demand) → Decided (Holds rows a d)
-  holding (is_operation x o) = found (row_given rows a x) (IsDescribed rows a o) (described o)
+  holding (has_parts x o) = found (row_given rows a x) (HasParts rows a o) (described o)
   holding (has_name x n) = options texts (option_map (λ r. r.name) (row_given rows a x)) (Some n)
   holding (has_type x e) = found (denoted rows a e) (λ t. option_and_then (thing_type rows) (slice_get a x) ≡ Some t) (λ t. options things (option_and_then (thing_type rows) (slice_get a x)) (Some t))
   holding (stands e) = by (denoted rows a e) where

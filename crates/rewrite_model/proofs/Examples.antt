@@ -10,7 +10,7 @@ use Rattle.mlir_tree.specs.Module.{enclosing, is_visible}
 use Rattle.mlir_tree.specs.Edits.{inserted, put_before, substituted, removed}
 use Rattle.native_set.specs.declared.native.Kind.TheVariants as kind
 use Rattle.rewrite_model.specs.declared.run.Break.TheVariants.{Gone, Top, NativeRefused, BadUse}
-use Rattle.rewrite_model.specs.Pattern.{the, is_operation, matched, made, new_operation, results_of, result_types_of, makes, replaces, erases, Pattern}
+use Rattle.rewrite_model.specs.Pattern.{the, has_name, has_parts, matched, made, new_operation, results_of, result_types_of, makes, replaces, erases, Pattern}
 use Rattle.rewrite_model.specs.Things.{Thing, an_op, a_value, some_values, an_attr, some_types}
 use Rattle.rewrite_model.specs.Matching.{MatchesBy}
 use Rattle.rewrite_model.specs.Making.{breaks}
@@ -44,7 +44,7 @@ shapes_given = a_value (Res 1 0) ∷ some_types (word (codes "tensor<2x2xf32>") 
 pub shapes_match : MatchesBy shapes.rows reshape_reshape shapes_given 3
 shapes_match = record {
   assigned = record { kinds_fit = refl; are_things = refl };
-  holds = ((_, refl, record { name = refl; operands = refl; entries = tt; types = refl }), ((_, refl), ((_, refl, record { name = refl; operands = refl; entries = tt; types = refl }), ((_, refl), tt))));
+  holds = (refl, ((_, refl, record { operands = refl; entries = tt; types = refl }), ((_, refl), (refl, ((_, refl, record { operands = refl; entries = tt; types = refl }), ((_, refl), tt))))));
   root = refl;
 }
 
@@ -70,7 +70,7 @@ one_a_given ts = some_values [] ∷ some_types ts ∷ an_op 1 ∷ []
 pub one_a_matches : MatchesBy (one_a []).rows low (one_a_given []) 1
 one_a_matches = record {
   assigned = record { kinds_fit = refl; are_things = refl };
-  holds = ((_, refl, record { name = refl; operands = refl; entries = tt; types = refl }), tt);
+  holds = (refl, ((_, refl, record { operands = refl; entries = tt; types = refl }), tt));
   root = refl;
 }
 
@@ -99,7 +99,7 @@ subs_given = a_value (Res 1 1) ∷ some_types (i32 ∷ []) ∷ an_op 3 ∷ []
 pub subs_match : MatchesBy subs.rows same subs_given 3
 subs_match = record {
   assigned = record { kinds_fit = refl; are_things = refl };
-  holds = ((_, refl, record { name = refl; operands = refl; entries = tt; types = refl }), tt);
+  holds = (refl, ((_, refl, record { operands = refl; entries = tt; types = refl }), tt));
   root = refl;
 }
 
@@ -139,19 +139,7 @@ a_twice_given = some_values [] ∷ some_types (i32 ∷ []) ∷ an_op 1 ∷ some_
 two_match : MatchesBy a_twice.rows two a_twice_given 2
 two_match = record {
   assigned = record { kinds_fit = refl; are_things = refl };
-  holds = (
-    (_, refl, record { name = refl; operands = refl; entries = tt; types = refl }),
-    (
-      (_, refl),
-      (
-        (_, refl, record { name = refl; operands = refl; entries = tt; types = refl }),
-        (
-          (_, refl),
-          ((_, refl, record { name = refl; operands = refl; entries = tt; types = refl }), ((_, refl), tt)),
-        ),
-      ),
-    ),
-  );
+  holds = (refl, ((_, refl, record { operands = refl; entries = tt; types = refl }), ((_, refl), (refl, ((_, refl, record { operands = refl; entries = tt; types = refl }), ((_, refl), (refl, ((_, refl, record { operands = refl; entries = tt; types = refl }), ((_, refl), tt)))))))));
   root = refl;
 }
 
@@ -167,7 +155,7 @@ erase_module = record {
   benefit = 1;
   kinds = kind.Values ∷ kind.Tys ∷ kind.Op ∷ [];
   places = 18 ∷ 18 ∷ 18 ∷ [];
-  demands = is_operation 2 (record { name = codes "builtin.module"; operands = the 0 ∷ []; entries = []; types = the 1 ∷ [] }) ∷ [];
+  demands = has_name 2 (codes "builtin.module") ∷ has_parts 2 (record { operands = the 0 ∷ []; entries = []; types = the 1 ∷ [] }) ∷ [];
   root = 2;
   actions = erases (matched (the 2)) ∷ [];
 }
@@ -196,25 +184,7 @@ fuse_given = some_values [] ∷ some_types (i32 ∷ []) ∷ an_op 1 ∷ some_typ
 fuse_match : MatchesBy (with_dead []).rows fuse fuse_given 3
 fuse_match = record {
   assigned = record { kinds_fit = refl; are_things = refl };
-  holds = (
-    (_, refl, record { name = refl; operands = refl; entries = tt; types = refl }),
-    (
-      (_, refl),
-      (
-        (_, refl, record { name = refl; operands = refl; entries = tt; types = refl }),
-        (
-          (_, refl),
-          (
-            (_, refl, record { name = refl; operands = refl; entries = tt; types = refl }),
-            (
-              (_, refl),
-              ((_, refl, refl), tt),
-            ),
-          ),
-        ),
-      ),
-    ),
-  );
+  holds = (refl, ((_, refl, record { operands = refl; entries = tt; types = refl }), ((_, refl), (refl, ((_, refl, record { operands = refl; entries = tt; types = refl }), ((_, refl), (refl, ((_, refl, record { operands = refl; entries = tt; types = refl }), ((_, refl), ((_, refl, refl), tt))))))))));
   root = refl;
 }
 
@@ -255,25 +225,7 @@ sums_given v =
 sums_match : MatchesBy (sums (integer false 50 i8)).rows fold (sums_given (integer false 50 i8)) 3
 sums_match = record {
   assigned = record { kinds_fit = refl; are_things = refl };
-  holds = (
-    (_, refl, record { name = refl; operands = refl; entries = ((_, refl, refl), tt); types = refl }),
-    (
-      (_, refl),
-      (
-        (_, refl, record { name = refl; operands = refl; entries = ((_, refl, refl), tt); types = refl }),
-        (
-          (_, refl),
-          (
-            (_, refl, record { name = refl; operands = refl; entries = tt; types = refl }),
-            (
-              (_, refl),
-              ((_, refl, refl), ((_, refl, refl), tt)),
-            ),
-          ),
-        ),
-      ),
-    ),
-  );
+  holds = (refl, ((_, refl, record { operands = refl; entries = ((_, refl, refl), tt); types = refl }), ((_, refl), (refl, ((_, refl, record { operands = refl; entries = ((_, refl, refl), tt); types = refl }), ((_, refl), (refl, ((_, refl, record { operands = refl; entries = tt; types = refl }), ((_, refl), ((_, refl, refl), ((_, refl, refl), tt)))))))))));
   root = refl;
 }
 
@@ -309,7 +261,7 @@ replace_a = record low {
   name = codes "R";
   actions =
       makes (result_types_of (matched (the 2)))
-      ∷ makes (new_operation (record { name = codes "t.b"; operands = []; entries = []; types = made 0 ∷ [] }))
+      ∷ makes (new_operation (codes "t.b") (record { operands = []; entries = []; types = made 0 ∷ [] }))
       ∷ makes (results_of (made 1))
       ∷ replaces (matched (the 2)) (made 2 ∷ [])
       ∷ [];

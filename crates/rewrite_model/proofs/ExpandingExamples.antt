@@ -12,7 +12,7 @@ use Rattle.pdll_syntax.specs.StmtTree.{Stmt, stmt, let_stmt, erase_stmt, return_
 use Rattle.native_set.specs.declared.native.Kind.TheVariants as kind
 use Rattle.native_set.specs.declared.native.Constraint.TheVariants.{HasOneUse, IsInt, NoRegions}
 use Rattle.native_set.specs.declared.native.Rewrite.TheVariants.{AddInt}
-use Rattle.rewrite_model.specs.Pattern.{the, attr_literal, result, only_result, is_operation, has_name, has_type, stands, calls, matched, made, new_operation, result_of, results_of, result_types_of, native, makes, replaces, erases, Pattern}
+use Rattle.rewrite_model.specs.Pattern.{the, attr_literal, result, only_result, has_parts, has_name, has_type, stands, calls, matched, made, new_operation, result_of, results_of, result_types_of, native, makes, replaces, erases, Pattern}
 use Rattle.rewrite_model.specs.Expanding.{expanded, patterns}
 use Rattle.rewrite_model.specs.Size.{expanded_size}
 use Rattle.rewrite_model.proofs.Samples.{a_ref, name, member, call, declared, op_at, with_value, a_name, let_be, plain, pattern, braces, param, constraint, rewrite}
@@ -36,15 +36,15 @@ reshape_reshape = record {
   kinds = kind.Value ∷ kind.Tys ∷ kind.Op ∷ kind.Tys ∷ kind.Op ∷ [];
   places = 54 ∷ 40 ∷ 40 ∷ 80 ∷ 80 ∷ [];
   demands =
-      is_operation 2 (record { name = codes "t.reshape"; operands = the 0 ∷ []; entries = []; types = the 1 ∷ [] })
+      has_name 2 (codes "t.reshape") ∷ has_parts 2 (record { operands = the 0 ∷ []; entries = []; types = the 1 ∷ [] })
       ∷ stands (the 2)
-      ∷ is_operation 4 (record { name = codes "t.reshape"; operands = only_result 2 ∷ []; entries = []; types = the 3 ∷ [] })
+      ∷ has_name 4 (codes "t.reshape") ∷ has_parts 4 (record { operands = only_result 2 ∷ []; entries = []; types = the 3 ∷ [] })
       ∷ stands (the 4)
       ∷ [];
   root = 4;
   actions =
       makes (result_types_of (matched (the 4)))
-      ∷ makes (new_operation (record { name = codes "t.reshape"; operands = matched (the 0) ∷ []; entries = []; types = made 0 ∷ [] }))
+      ∷ makes (new_operation (codes "t.reshape") (record { operands = matched (the 0) ∷ []; entries = []; types = made 0 ∷ [] }))
       ∷ makes (results_of (made 1))
       ∷ replaces (matched (the 4)) (made 2 ∷ [])
       ∷ [];
@@ -68,7 +68,7 @@ low = record {
   benefit = 1;
   kinds = kind.Values ∷ kind.Tys ∷ kind.Op ∷ [];
   places = 21 ∷ 21 ∷ 21 ∷ [];
-  demands = is_operation 2 (record { name = codes "t.a"; operands = the 0 ∷ []; entries = []; types = the 1 ∷ [] }) ∷ [];
+  demands = has_name 2 (codes "t.a") ∷ has_parts 2 (record { operands = the 0 ∷ []; entries = []; types = the 1 ∷ [] }) ∷ [];
   root = 2;
   actions = erases (matched (the 2)) ∷ [];
 }
@@ -80,9 +80,9 @@ high = record {
   benefit = 10;
   kinds = kind.Values ∷ kind.Tys ∷ kind.Op ∷ [];
   places = 65 ∷ 65 ∷ 65 ∷ [];
-  demands = is_operation 2 (record { name = codes "t.a"; operands = the 0 ∷ []; entries = []; types = the 1 ∷ [] }) ∷ stands (the 2) ∷ [];
+  demands = has_name 2 (codes "t.a") ∷ has_parts 2 (record { operands = the 0 ∷ []; entries = []; types = the 1 ∷ [] }) ∷ stands (the 2) ∷ [];
   root = 2;
-  actions = makes (new_operation (record { name = codes "t.b"; operands = []; entries = []; types = [] })) ∷ erases (matched (the 2)) ∷ [];
+  actions = makes (new_operation (codes "t.b") (record { operands = []; entries = []; types = [] })) ∷ erases (matched (the 2)) ∷ [];
 }
 
 abbrev high_body : List Stmt
@@ -110,11 +110,11 @@ same = record {
   benefit = 1;
   kinds = kind.Value ∷ kind.Tys ∷ kind.Op ∷ [];
   places = 32 ∷ 24 ∷ 24 ∷ [];
-  demands = is_operation 2 (record { name = codes "t.sub"; operands = the 0 ∷ the 0 ∷ []; entries = []; types = the 1 ∷ [] }) ∷ [];
+  demands = has_name 2 (codes "t.sub") ∷ has_parts 2 (record { operands = the 0 ∷ the 0 ∷ []; entries = []; types = the 1 ∷ [] }) ∷ [];
   root = 2;
   actions =
       makes (result_types_of (matched (the 2)))
-      ∷ makes (new_operation (record { name = codes "t.zero"; operands = []; entries = []; types = made 0 ∷ [] }))
+      ∷ makes (new_operation (codes "t.zero") (record { operands = []; entries = []; types = made 0 ∷ [] }))
       ∷ makes (results_of (made 1))
       ∷ replaces (matched (the 2)) (made 2 ∷ [])
       ∷ [];
@@ -133,12 +133,12 @@ self_use = record {
   benefit = 1;
   kinds = kind.Values ∷ kind.Tys ∷ kind.Op ∷ [];
   places = 26 ∷ 26 ∷ 26 ∷ [];
-  demands = is_operation 2 (record { name = codes "t.a"; operands = the 0 ∷ []; entries = []; types = the 1 ∷ [] }) ∷ stands (the 2) ∷ [];
+  demands = has_name 2 (codes "t.a") ∷ has_parts 2 (record { operands = the 0 ∷ []; entries = []; types = the 1 ∷ [] }) ∷ stands (the 2) ∷ [];
   root = 2;
   actions =
       makes (result_of (matched (the 2)) 0)
       ∷ makes (result_types_of (matched (the 2)))
-      ∷ makes (new_operation (record { name = codes "t.x"; operands = made 0 ∷ []; entries = []; types = made 1 ∷ [] }))
+      ∷ makes (new_operation (codes "t.x") (record { operands = made 0 ∷ []; entries = []; types = made 1 ∷ [] }))
       ∷ makes (results_of (made 2))
       ∷ replaces (matched (the 2)) (made 3 ∷ [])
       ∷ [];
@@ -159,15 +159,15 @@ swap = record {
   kinds = kind.Values ∷ kind.Tys ∷ kind.Op ∷ kind.Tys ∷ kind.Op ∷ [];
   places = 1 ∷ 1 ∷ 1 ∷ 2 ∷ 2 ∷ [];
   demands =
-      is_operation 2 (record { name = codes "t.a"; operands = the 0 ∷ []; entries = []; types = the 1 ∷ [] })
+      has_name 2 (codes "t.a") ∷ has_parts 2 (record { operands = the 0 ∷ []; entries = []; types = the 1 ∷ [] })
       ∷ stands (the 2)
-      ∷ is_operation 4 (record { name = codes "t.b"; operands = only_result 2 ∷ []; entries = []; types = the 3 ∷ [] })
+      ∷ has_name 4 (codes "t.b") ∷ has_parts 4 (record { operands = only_result 2 ∷ []; entries = []; types = the 3 ∷ [] })
       ∷ stands (the 4)
       ∷ [];
   root = 4;
   actions =
       makes (result_types_of (matched (the 2)))
-      ∷ makes (new_operation (record { name = codes "t.c"; operands = []; entries = []; types = made 0 ∷ [] }))
+      ∷ makes (new_operation (codes "t.c") (record { operands = []; entries = []; types = made 0 ∷ [] }))
       ∷ makes (results_of (made 1))
       ∷ replaces (matched (the 2)) (made 2 ∷ [])
       ∷ [];
@@ -189,11 +189,11 @@ two = record {
   kinds = kind.Values ∷ kind.Tys ∷ kind.Op ∷ kind.Values ∷ kind.Tys ∷ kind.Op ∷ kind.Tys ∷ kind.Op ∷ [];
   places = 1 ∷ 1 ∷ 1 ∷ 2 ∷ 2 ∷ 2 ∷ 3 ∷ 3 ∷ [];
   demands =
-      is_operation 2 (record { name = codes "t.a"; operands = the 0 ∷ []; entries = []; types = the 1 ∷ [] })
+      has_name 2 (codes "t.a") ∷ has_parts 2 (record { operands = the 0 ∷ []; entries = []; types = the 1 ∷ [] })
       ∷ stands (the 2)
-      ∷ is_operation 5 (record { name = codes "t.a"; operands = the 3 ∷ []; entries = []; types = the 4 ∷ [] })
+      ∷ has_name 5 (codes "t.a") ∷ has_parts 5 (record { operands = the 3 ∷ []; entries = []; types = the 4 ∷ [] })
       ∷ stands (the 5)
-      ∷ is_operation 7 (record { name = codes "t.b"; operands = only_result 2 ∷ only_result 5 ∷ []; entries = []; types = the 6 ∷ [] })
+      ∷ has_name 7 (codes "t.b") ∷ has_parts 7 (record { operands = only_result 2 ∷ only_result 5 ∷ []; entries = []; types = the 6 ∷ [] })
       ∷ stands (the 7)
       ∷ [];
   root = 7;
@@ -228,18 +228,18 @@ fuse = record {
   kinds = kind.Values ∷ kind.Tys ∷ kind.Op ∷ kind.Tys ∷ kind.Op ∷ kind.Tys ∷ kind.Op ∷ [];
   places = 1 ∷ 1 ∷ 1 ∷ 2 ∷ 2 ∷ 3 ∷ 3 ∷ [];
   demands =
-      is_operation 2 (record { name = codes "t.a"; operands = the 0 ∷ []; entries = []; types = the 1 ∷ [] })
+      has_name 2 (codes "t.a") ∷ has_parts 2 (record { operands = the 0 ∷ []; entries = []; types = the 1 ∷ [] })
       ∷ stands (the 2)
-      ∷ is_operation 4 (record { name = codes "t.b"; operands = only_result 2 ∷ []; entries = []; types = the 3 ∷ [] })
+      ∷ has_name 4 (codes "t.b") ∷ has_parts 4 (record { operands = only_result 2 ∷ []; entries = []; types = the 3 ∷ [] })
       ∷ stands (the 4)
-      ∷ is_operation 6 (record { name = codes "t.c"; operands = only_result 4 ∷ []; entries = []; types = the 5 ∷ [] })
+      ∷ has_name 6 (codes "t.c") ∷ has_parts 6 (record { operands = only_result 4 ∷ []; entries = []; types = the 5 ∷ [] })
       ∷ stands (the 6)
       ∷ calls HasOneUse (result 2 0 ∷ [])
       ∷ [];
   root = 6;
   actions =
       makes (result_types_of (matched (the 6)))
-      ∷ makes (new_operation (record { name = codes "t.abc"; operands = []; entries = []; types = made 0 ∷ [] }))
+      ∷ makes (new_operation (codes "t.abc") (record { operands = []; entries = []; types = made 0 ∷ [] }))
       ∷ makes (results_of (made 1))
       ∷ replaces (matched (the 6)) (made 2 ∷ [])
       ∷ [];
@@ -251,7 +251,7 @@ drop_dead = record {
   benefit = 1;
   kinds = kind.Values ∷ kind.Tys ∷ kind.Op ∷ [];
   places = 9 ∷ 9 ∷ 9 ∷ [];
-  demands = is_operation 2 (record { name = codes "t.dead"; operands = the 0 ∷ []; entries = []; types = the 1 ∷ [] }) ∷ [];
+  demands = has_name 2 (codes "t.dead") ∷ has_parts 2 (record { operands = the 0 ∷ []; entries = []; types = the 1 ∷ [] }) ∷ [];
   root = 2;
   actions = erases (matched (the 2)) ∷ [];
 }
@@ -295,11 +295,11 @@ fold = record {
   kinds = kind.Values ∷ kind.Attr ∷ kind.Tys ∷ kind.Op ∷ kind.Values ∷ kind.Attr ∷ kind.Tys ∷ kind.Op ∷ kind.Tys ∷ kind.Op ∷ [];
   places = 1 ∷ 2 ∷ 1 ∷ 1 ∷ 3 ∷ 4 ∷ 3 ∷ 3 ∷ 5 ∷ 5 ∷ [];
   demands =
-      is_operation 3 (record { name = codes "t.const"; operands = the 0 ∷ []; entries = (codes "value", the 1) ∷ []; types = the 2 ∷ [] })
+      has_name 3 (codes "t.const") ∷ has_parts 3 (record { operands = the 0 ∷ []; entries = (codes "value", the 1) ∷ []; types = the 2 ∷ [] })
       ∷ stands (the 3)
-      ∷ is_operation 7 (record { name = codes "t.const"; operands = the 4 ∷ []; entries = (codes "value", the 5) ∷ []; types = the 6 ∷ [] })
+      ∷ has_name 7 (codes "t.const") ∷ has_parts 7 (record { operands = the 4 ∷ []; entries = (codes "value", the 5) ∷ []; types = the 6 ∷ [] })
       ∷ stands (the 7)
-      ∷ is_operation 9 (record { name = codes "t.add"; operands = only_result 3 ∷ only_result 7 ∷ []; entries = []; types = the 8 ∷ [] })
+      ∷ has_name 9 (codes "t.add") ∷ has_parts 9 (record { operands = only_result 3 ∷ only_result 7 ∷ []; entries = []; types = the 8 ∷ [] })
       ∷ stands (the 9)
       ∷ calls IsInt (the 1 ∷ [])
       ∷ calls IsInt (the 5 ∷ [])
@@ -308,7 +308,7 @@ fold = record {
   actions =
       makes (native AddInt (matched (the 1) ∷ matched (the 5) ∷ []))
       ∷ makes (result_types_of (matched (the 9)))
-      ∷ makes (new_operation (record { name = codes "t.const"; operands = []; entries = (codes "value", made 0) ∷ []; types = made 1 ∷ [] }))
+      ∷ makes (new_operation (codes "t.const") (record { operands = []; entries = (codes "value", made 0) ∷ []; types = made 1 ∷ [] }))
       ∷ makes (results_of (made 2))
       ∷ replaces (matched (the 9)) (made 3 ∷ [])
       ∷ [];
@@ -382,12 +382,12 @@ bodies = record {
       ∷ stands (result 0 0)
       ∷ calls NoRegions (the 0 ∷ [])
       ∷ has_type 2 (the 1)
-      ∷ is_operation 3 (record { name = codes "t.b"; operands = only_result 0 ∷ the 2 ∷ []; entries = []; types = the 1 ∷ [] })
+      ∷ has_name 3 (codes "t.b") ∷ has_parts 3 (record { operands = only_result 0 ∷ the 2 ∷ []; entries = []; types = the 1 ∷ [] })
       ∷ stands (the 3)
       ∷ [];
   root = 3;
   actions =
-      makes (new_operation (record { name = codes "t.w"; operands = matched (the 2) ∷ []; entries = (codes "flag", matched (attr_literal unit)) ∷ []; types = [] }))
+      makes (new_operation (codes "t.w") (record { operands = matched (the 2) ∷ []; entries = (codes "flag", matched (attr_literal unit)) ∷ []; types = [] }))
       ∷ makes (result_of (made 0) 0)
       ∷ makes (results_of (matched (the 0)))
       ∷ replaces (matched (the 3)) (made 1 ∷ made 2 ∷ [])

@@ -13,10 +13,10 @@ use Rattle.mlir_tree.specs.Module.{row_of}
 use Rattle.mlir_tree.specs.Edits.{attribute_of}
 use Rattle.native_set.specs.declared.native.Kind.{Kind}
 use Rattle.native_set.specs.declared.native.Kind.TheVariants as kind
-use Rattle.rewrite_model.specs.Pattern.{Operation, Expr, the, attr_literal, type_literal, result, only_result, Demand, is_operation, has_type, Pattern}
+use Rattle.rewrite_model.specs.Pattern.{Parts, Expr, the, attr_literal, type_literal, result, only_result, Demand, has_parts, has_type, Pattern}
 use Rattle.rewrite_model.specs.Determined.{IsIn, StandsIn, values_of, IsPart, Determined, given_one, part_of, type_of, kind_in, is_range_kind, is_range, ranges, HasOneRange, KeepsOneRange}
 use Rattle.rewrite_model.specs.Things.{Thing, an_op, a_value, some_values, an_attr, a_type, some_types, kind_of, row_at, result_at, only_result_at, values_in, types_in, joined, concatenated, denoted, values_denoted, types_denoted}
-use Rattle.rewrite_model.specs.Holding.{HasEntry, IsDescribed, thing_type, Holds}
+use Rattle.rewrite_model.specs.Holding.{HasEntry, HasParts, thing_type, Holds}
 use Rattle.rewrite_model.specs.Matching.{MatchesBy}
 
 abbrev pub some_or : {X : Type 0} → X → Option X → X
@@ -233,13 +233,13 @@ picked_entry rows a r e [] i h = elim i [ ]
 picked_entry rows a r e (x ∷ es) (inl i) h = ap (denoted rows a) i ∙ (h.0.2 ∙ ap (option_map an_attr) (sym h.0.1))
 picked_entry rows a r e (x ∷ es) (inr i) h = picked_entry rows a r e es i h.1
 
-abbrev pub pick_part : List Kind → Row → (e : Expr) (o : Operation Expr) → IsPart e o → Option Thing
+abbrev pub pick_part : List Kind → Row → (e : Expr) (o : Parts Expr) → IsPart e o → Option Thing
 pick_part ks r e o (inl i) = pick e o.operands i (cut a_value some_values (map (is_range ks) o.operands) r.operands)
 pick_part ks r e o (inr (inl i)) = pick_entry r e o.entries i
 pick_part ks r e o (inr (inr i)) = pick e o.types i (cut a_type some_types (map (is_range ks) o.types) r.results)
 
-picked_part : (rows : List Row) (ks : List Kind) (a : List Thing) → map kind_of a ≡ ks → (r : Row) (e : Expr) (o : Operation Expr) (i : IsPart e o)
-    → HasOneRange ks o.operands × HasOneRange ks o.types → IsDescribed rows a o r → denoted rows a e ≡ pick_part ks r e o i
+picked_part : (rows : List Row) (ks : List Kind) (a : List Thing) → map kind_of a ≡ ks → (r : Row) (e : Expr) (o : Parts Expr) (i : IsPart e o)
+    → HasOneRange ks o.operands × HasOneRange ks o.types → HasParts rows a o r → denoted rows a e ≡ pick_part ks r e o i
 picked_part rows ks a fits r e o (inl i) one d =
     picked rows a e o.operands i (cut a_value some_values (map (is_range ks) o.operands) r.operands)
     (cut_right a_value some_values values_in value_parts rows ks a fits o.operands r.operands one.0 d.operands)
@@ -260,8 +260,8 @@ holding P d (x ∷ ds) (inl i) h = subst P (sym i) h.0
 holding P d (x ∷ ds) (inr i) h = holding P d ds i h.1
 
 -- a part denotes something
-part_denotes : (rows : List Row) (ks : List Kind) (a : List Thing) → map kind_of a ≡ ks → (r : Row) (e : Expr) (o : Operation Expr) → IsPart e o
-    → HasOneRange ks o.operands × HasOneRange ks o.types → IsDescribed rows a o r → (t : Thing) × (denoted rows a e ≡ Some t)
+part_denotes : (rows : List Row) (ks : List Kind) (a : List Thing) → map kind_of a ≡ ks → (r : Row) (e : Expr) (o : Parts Expr) → IsPart e o
+    → HasOneRange ks o.operands × HasOneRange ks o.types → HasParts rows a o r → (t : Thing) × (denoted rows a e ≡ Some t)
 part_denotes rows ks a fits r e o (inl i) one d = operand o.operands i r.operands d.operands where
   operand : (es : List Expr) → IsIn e es → (vs : List Val) → concatenated (values_denoted rows a) es ≡ Some vs → (t : Thing) × (denoted rows a e ≡ Some t)
   operand [] i vs j = elim i [ ]
@@ -290,8 +290,8 @@ module _ (rows : List Row) (p : Pattern) (id : ℕ) (a : List Thing) (one : AllB
   told_right _ (given_one x (inl i)) = ap (slice_get a) i ∙ m.root
   told_right _ (given_one x (inr i)) = elim i [ ]
   told_right _ (part_of x y o e d t i s) =
-      let h : Holds rows a (is_operation x o) = holding (Holds rows a) (is_operation x o) p.demands d m.holds in
-      let u : HasOneRange p.kinds o.operands × HasOneRange p.kinds o.types = holding (KeepsOneRange p.kinds) (is_operation x o) p.demands d one in
+      let h : Holds rows a (has_parts x o) = holding (Holds rows a) (has_parts x o) p.demands d m.holds in
+      let u : HasOneRange p.kinds o.operands × HasOneRange p.kinds o.types = holding (KeepsOneRange p.kinds) (has_parts x o) p.demands d one in
       let n = part_denotes rows p.kinds a m.assigned.kinds_fit h.0 e o i u h.2 in
       let q : denoted rows a e ≡ pick_part p.kinds h.0 e o i = picked_part rows p.kinds a m.assigned.kinds_fit h.0 e o i u h.2 in
       let w : option_and_then (row_at rows) (told rows p.kinds p.demands p.root id x t) ≡ Some h.0 = ap (option_and_then (row_at rows)) (sym (told_right x t)) ∙ h.1 in

@@ -3,7 +3,7 @@ use Rattle.std.specs.Prelude.{◌≡◌, ◌⊎◌, ℕ, ◌+◌, ◌<◌, ◌�
 use Rattle.std.specs.List.{AllByRecursion, range_with_len}
 use Rattle.native_set.specs.declared.native.Kind.{Kind}
 use Rattle.native_set.specs.declared.native.Kind.TheVariants as kind
-use Rattle.rewrite_model.specs.Pattern.{Operation, Expr, the, attr_literal, type_literal, result, only_result, Demand, is_operation, has_type, Pattern}
+use Rattle.rewrite_model.specs.Pattern.{Parts, Expr, the, attr_literal, type_literal, result, only_result, Demand, has_parts, has_type, Pattern}
 use Rattle.rewrite_model.specs.MatchPart.{Scene}
 
 abbrev pub IsIn : {X : Type 0} → X → List X → Type 0
@@ -22,14 +22,14 @@ abbrev pub values_of : List (List ℕ × Expr) → List Expr
 values_of es = map (λ e. e.1) es
 
 -- an operand, an attribute or a result type of an operation
-abbrev pub IsPart : Expr → Operation Expr → Type 0
+abbrev pub IsPart : Expr → Parts Expr → Type 0
 IsPart e o = IsIn e o.operands ⊎ (IsIn e (values_of o.entries) ⊎ IsIn e o.types)
 
 -- What is given is determined: the root, or the parameters of a constraint. With an operation its operands, attributes
 -- and types are, and with those the operations whose results they are. With a variable its written type is.
 pub data Determined (given : List ℕ) (demands : List Demand) : ℕ → Type 0 where
   given_one : (x : ℕ) → IsIn x given → Determined given demands x
-  part_of : (x y : ℕ) (o : Operation Expr) (e : Expr) → IsIn (is_operation x o) demands → Determined given demands x → IsPart e o → StandsIn y e → Determined given demands y
+  part_of : (x y : ℕ) (o : Parts Expr) (e : Expr) → IsIn (has_parts x o) demands → Determined given demands x → IsPart e o → StandsIn y e → Determined given demands y
   type_of : (x y : ℕ) (e : Expr) → IsIn (has_type x e) demands → Determined given demands x → StandsIn y e → Determined given demands y
 
 -- ---- ranges
@@ -59,7 +59,7 @@ abbrev pub HasOneRange : List Kind → List Expr → Type 0
 HasOneRange ks es = ranges ks es ≤ 1
 
 abbrev pub KeepsOneRange : List Kind → Demand → Type 0
-KeepsOneRange ks (is_operation x o) = HasOneRange ks o.operands × HasOneRange ks o.types
+KeepsOneRange ks (has_parts x o) = HasOneRange ks o.operands × HasOneRange ks o.types
 KeepsOneRange ks d = ⊤
 
 -- ---- patterns

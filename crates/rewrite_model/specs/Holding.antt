@@ -12,7 +12,7 @@ use Rattle.mlir_tree.specs.Edits.{attribute_of, val_eq}
 use Rattle.native_set.specs.declared.native.Constraint.{Constraint}
 use Rattle.native_set.specs.declared.native.Constraint.TheVariants.{HasOneUse, HasNoUse, IsInt, IsZero, SameBlock, NoRegions}
 use Rattle.native_set.specs.Arithmetic.{is_int, is_zero}
-use Rattle.rewrite_model.specs.Pattern.{Operation, Expr, Demand, is_operation, has_name, has_type, stands, calls}
+use Rattle.rewrite_model.specs.Pattern.{Parts, Expr, Demand, has_name, has_parts, has_type, stands, calls}
 use Rattle.rewrite_model.specs.Things.{Thing, an_op, a_value, some_values, an_attr, a_type, some_types, row_at, type_of, each, concatenated, denoted, values_denoted, types_denoted}
 
 -- ---- operations
@@ -22,8 +22,7 @@ abbrev pub HasEntry : List Row → List Thing → Row → List ℕ × Expr → T
 HasEntry rows a r e = (v : Attr) × (attribute_of r e.0 ≡ Some v) × (denoted rows a e.1 ≡ Some (an_attr v))
 
 -- The operands of the row are the operands denoted, one behind another, and so are its result types.
-pub record IsDescribed (rows : List Row) (a : List Thing) (o : Operation Expr) (r : Row) : Type 0 where
-  pub name : r.name ≡ o.name
+pub record HasParts (rows : List Row) (a : List Thing) (o : Parts Expr) (r : Row) : Type 0 where
   pub operands : concatenated (values_denoted rows a) o.operands ≡ Some r.operands
   pub entries : AllByRecursion (HasEntry rows a r) o.entries
   pub types : concatenated (types_denoted rows a) o.types ≡ Some r.results
@@ -68,8 +67,8 @@ NativeHolds rows c ts = ⊥
 
 -- What is asked for is met, and the expressions in it denote something.
 abbrev pub Holds : List Row → List Thing → Demand → Type 0
-Holds rows a (is_operation x o) = (r : Row) × (row_given rows a x ≡ Some r) × IsDescribed rows a o r
 Holds rows a (has_name x n) = option_map (λ r. r.name) (row_given rows a x) ≡ Some n
+Holds rows a (has_parts x o) = (r : Row) × (row_given rows a x ≡ Some r) × HasParts rows a o r
 Holds rows a (has_type x e) = (t : Thing) × (denoted rows a e ≡ Some t) × (option_and_then (thing_type rows) (slice_get a x) ≡ Some t)
 Holds rows a (stands e) = (t : Thing) × (denoted rows a e ≡ Some t)
 Holds rows a (calls c es) = (ts : List Thing) × (each (denoted rows a) es ≡ Some ts) × NativeHolds rows c ts

@@ -20,7 +20,7 @@ use Rattle.rewrite_model.specs.declared.run.Break.{Break}
 use Rattle.rewrite_model.specs.declared.run.Break.TheVariants.{Gone, Count, Types, Top, NativeRefused}
 use Rattle.rewrite_model.specs.declared.run.BoundKind.{BoundKind}
 use Rattle.rewrite_model.specs.declared.run.BoundKind.TheVariants.{RowLimit, SlotLimit}
-use Rattle.rewrite_model.specs.Pattern.{Operation, Part, matched, made, Making, new_operation, result_of, only_result_of, results_of, result_types_of, native, Action, makes, replaces, erases}
+use Rattle.rewrite_model.specs.Pattern.{Parts, Part, matched, made, Making, new_operation, result_of, only_result_of, results_of, result_types_of, native, Action, makes, replaces, erases}
 use Rattle.rewrite_model.specs.Things.{Thing, an_op, some_values, an_attr, some_types, row_at, result_at, only_result_at, type_of, values_in, types_in, attr_in, concatenated, each, denoted}
 
 -- What ends a step before its time.
@@ -162,21 +162,21 @@ module _ (start : Start) where
     slots = p.slots + slots_of new;
   }
 
-  abbrev pub create : Progress → Operation Part → Outcome Progress
-  create p o = do
+  abbrev pub create : Progress → List ℕ → Parts Part → Outcome Progress
+  create p name o = do
     vs ← values_at p o.operands
     es ← entries_at p o.entries
     ts ← types_at p o.types
     need (are_live p.now.rows vs) Gone
     need (not (nat_eq start.root 0)) Top
     root ← or_break Gone (row_of p.now.rows start.root)
-    need_room p (new_row root p.now.next o.name vs es ts)
-    Ok (put_in p (new_row root p.now.next o.name vs es ts))
+    need_room p (new_row root p.now.next name vs es ts)
+    Ok (put_in p (new_row root p.now.next name vs es ts))
 
   -- ---- what is made
 
   abbrev pub making : Progress → Making → Outcome Progress
-  making p (new_operation o) = create p o
+  making p (new_operation name o) = create p name o
   making p (result_of x k) = do
     r ← live_row p x
     t ← or_break Count (result_at k r)

@@ -9,7 +9,7 @@ use Rattle.pdll_syntax.specs.ExprTree.{Expr as Syntax, expr, ExprForm, name_expr
 use Rattle.pdll_syntax.specs.StmtTree.{Stmt, stmt, let_stmt, plain_stmt}
 use Rattle.native_set.specs.declared.native.Kind.{Kind}
 use Rattle.native_set.specs.declared.native.Kind.TheVariants as kind
-use Rattle.rewrite_model.specs.Pattern.{Expr, the, attr_literal, type_literal, result, only_result, Demand, is_operation, has_name, has_type, stands}
+use Rattle.rewrite_model.specs.Pattern.{Expr, the, attr_literal, type_literal, result, only_result, Demand, has_name, has_parts, has_type, stands}
 use Rattle.rewrite_model.specs.Doing.{Doing, ◌>>=◌, ◌>>◌, pure, change, for_each}
 use Rattle.rewrite_model.specs.Names.{Written, ref_name, written_kind, Meant, Names, meaning}
 
@@ -123,7 +123,8 @@ module _ (constraint : List ℕ → Constrains) where
       entries ← entries_of es
       types ← types_at ts at
       x ← new_number at kind.Op
-      ask (is_operation (number_of x.is) (record { name = n; operands = operands; entries = entries; types = types }))
+      ask (has_name (number_of x.is) n)
+      ask (has_parts (number_of x.is) (record { operands = operands; entries = entries; types = types }))
       pure x
 
     -- left-out operands are `_: ValueRange`

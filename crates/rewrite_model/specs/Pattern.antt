@@ -6,9 +6,8 @@ use Rattle.native_set.specs.declared.native.Kind.{Kind}
 use Rattle.native_set.specs.declared.native.Constraint.{Constraint}
 use Rattle.native_set.specs.declared.native.Rewrite.{Rewrite}
 
--- The operation that an expression `op<name>(..) {..} -> (..)` describes.
-pub record Operation (E : Type 0) : Type 0 where
-  pub name : List ℕ
+-- What stands behind the name in `op<name>(..) {..} -> (..)`.
+pub record Parts (E : Type 0) : Type 0 where
   pub operands : List E
   pub entries : List (List ℕ × E)
   pub types : List E
@@ -26,8 +25,8 @@ pub data Expr : Type 0 where
 
 -- What a match asks for.
 pub data Demand : Type 0 where
-  is_operation : ℕ → Operation Expr → Demand  -- x is such an operation
-  has_name : ℕ → List ℕ → Demand  -- x: Op<name>
+  has_name : ℕ → List ℕ → Demand  -- op<name>, x: Op<name>
+  has_parts : ℕ → Parts Expr → Demand  -- op<..>(..) {..} -> (..)
   has_type : ℕ → Expr → Demand  -- x: Value<t>, x: ValueRange<t>, x: Attr<t>
   stands : Expr → Demand  -- the expression denotes something
   calls : Constraint → List Expr → Demand
@@ -41,7 +40,7 @@ pub data Part : Type 0 where
 
 -- An expression of the rewrite whose parts are there.
 pub data Making : Type 0 where
-  new_operation : Operation Part → Making
+  new_operation : List ℕ → Parts Part → Making
   result_of : Part → ℕ → Making
   only_result_of : Part → Making  -- an operation among operands
   results_of : Part → Making  -- an operation among replacements

@@ -92,7 +92,7 @@ module _ (rewrite : Rewrites) where
       operands ← operands_evaluated os
       entries ← entries_evaluated es
       types ← types_evaluated ts old
-      make kind.Op (new_operation (record { name = n; operands = operands; entries = entries; types = types }))
+      make kind.Op (new_operation n (record { operands = operands; entries = entries; types = types }))
 
     -- operands that are left out are none
     pub operands_evaluated : MaybeExprs → Doing Script (List Part)
