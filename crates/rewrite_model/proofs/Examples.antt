@@ -5,17 +5,18 @@ use Rattle.mlir_resolve.specs.BadUses.{bad_use}
 use Rattle.mlir_tree.specs.declared.row.Row.{Row}
 use Rattle.mlir_tree.specs.declared.rows.Rows.{Rows}
 use Rattle.mlir_tree.specs.declared.value.Val.TheVariants.{Res}
-use Rattle.mlir_tree.specs.Tree.{Ty, word, Attr}
+use Rattle.mlir_tree.specs.Tree.{Ty, word, Attr, unit, of_ty}
 use Rattle.mlir_tree.specs.Module.{enclosing, is_visible}
 use Rattle.mlir_tree.specs.Edits.{inserted, put_before, substituted, removed}
 use Rattle.native_set.specs.declared.native.Kind.TheVariants as kind
 use Rattle.rewrite_model.specs.declared.run.Break.TheVariants.{Gone, Top, NativeRefused, BadUse}
-use Rattle.rewrite_model.specs.Pattern.{the, has_name, has_parts, matched, made, new_operation, results_of, result_types_of, makes, replaces, erases, Pattern}
+use Rattle.rewrite_model.specs.declared.run.BoundKind.TheVariants.{RowLimit, SlotLimit}
+use Rattle.rewrite_model.specs.Pattern.{the, attr_literal, Part, has_name, has_parts, matched, made, new_operation, results_of, result_types_of, makes, replaces, erases, Pattern}
 use Rattle.rewrite_model.specs.Things.{Thing, an_op, a_value, some_values, an_attr, some_types}
 use Rattle.rewrite_model.specs.Matching.{MatchesBy}
-use Rattle.rewrite_model.specs.Making.{breaks}
-use Rattle.rewrite_model.specs.Step.{rewritten, step, made_numbers, removed_numbers}
-use Rattle.rewrite_model.proofs.Samples.{op, module_of, i8, i32, integer}
+use Rattle.rewrite_model.specs.Making.{breaks, bound, Start, Progress, Outcome, making}
+use Rattle.rewrite_model.specs.Step.{start_at, rewritten, step, made_numbers, removed_numbers}
+use Rattle.rewrite_model.proofs.Samples.{top, op, module_of, i8, i32, integer}
 use Rattle.rewrite_model.proofs.ExpandingExamples.{reshape_reshape, low, high, same, self_use, swap, two, fuse, drop_dead, fold}
 
 -- ---- a reshape of a reshape
@@ -278,3 +279,35 @@ rows_inside = refl
 
 both_removed : removed_numbers (around 4 (codes "t.b") 5) (module_of (op 4 (codes "t.b") [] (i32 ∷ []) ∷ []) 5) ≡ 2 ∷ 3 ∷ []
 both_removed = refl
+
+-- ---- new operations
+
+abbrev start : Start
+start = start_at (one_a []) (one_a_given []) 1
+
+abbrev progress : ℕ → ℕ → Progress
+progress rows slots = record { now = one_a []; made = an_attr unit ∷ some_types (i32 ∷ i32 ∷ []) ∷ []; rows = rows; slots = slots }
+
+-- op<t.n>() {b = made 0, a} -> (made 1)
+abbrev entries : List (List ℕ × Part)
+entries = (codes "b", made 0) ∷ (codes "a", matched (attr_literal (of_ty i8))) ∷ []
+
+abbrev new : Progress → Outcome Progress
+new p = making start p (new_operation (codes "t.n") (record { operands = []; entries = entries; types = made 1 ∷ [] }))
+
+-- Attributes are put in the order of their names. The new operation stands just before the root.
+in_order : new (progress 3999999 15999998) ≡ Ok (record {
+  now = record { rows = top ∷ record (op 2 (codes "t.n") [] (i32 ∷ i32 ∷ [])) { attrs = (codes "a", of_ty i8) ∷ (codes "b", unit) ∷ [] } ∷ op 1 (codes "t.a") [] [] ∷ []; next = 3 };
+  made = an_attr unit ∷ some_types (i32 ∷ i32 ∷ []) ∷ an_op 2 ∷ [];
+  rows = 4000000;
+  slots = 16000000;
+})
+unfolding inserted put_before
+in_order = refl
+
+-- The limit on operations comes before the one on operands and results.
+no_rows : new (progress 4000000 16000000) ≡ Err (bound RowLimit)
+no_rows = refl
+
+no_slots : new (progress 3999999 15999999) ≡ Err (bound SlotLimit)
+no_slots = refl

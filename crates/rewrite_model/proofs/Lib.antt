@@ -8,3 +8,5 @@ mod Deciding
 mod OneRun
 mod SomeRun
 mod Courses
+mod Refuting
+mod RunExamples

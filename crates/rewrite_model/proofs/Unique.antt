@@ -12,11 +12,17 @@ use Rattle.rewrite_model.specs.Matching.{MatchesBy}
 use Rattle.rewrite_model.specs.Laws.{AtMostOneAssignment}
 use Rattle.rewrite_model.proofs.Told.{some_or, told, told_right, same_length}
 
-pub less_or_not : (x y : ℕ) → (x < y) ⊎ (y ≤ x)
+pub is_less : (x y : ℕ) → nat_lt x y ≡ true → x < y
+is_less x y p = grind (arith, nat_tests)
+
+pub is_not : (x y : ℕ) → nat_lt x y ≡ false → y ≤ x
+is_not x y p = grind (arith, nat_tests)
+
+unfoldable pub less_or_not : (x y : ℕ) → (x < y) ⊎ (y ≤ x)
 less_or_not x y = by (nat_lt x y) refl where
   by : (b : Bool) → nat_lt x y ≡ b → (x < y) ⊎ (y ≤ x)
-  by true p = inl (grind (arith, nat_tests))
-  by false p = inr (grind (arith, nat_tests))
+  by true p = inl (is_less x y p)
+  by false p = inr (is_not x y p)
 
 -- ---- a list by its places
 
