@@ -10,3 +10,8 @@ mod SomeRun
 mod Courses
 mod Refuting
 mod RunExamples
+mod Kept
+mod PutIn
+mod Places
+mod LayoutSubstituted
+mod LayoutRemoved

@@ -2,7 +2,7 @@
 use Rattle.std.specs.Prelude.{◌≡◌, ◌⊎◌, ℕ, List, All, Ok}
 use Rattle.mlir_tree.specs.declared.row.Row.{Row}
 use Rattle.mlir_tree.specs.declared.rows.Rows.{Rows}
-use Rattle.mlir_tree.specs.WellFormed.{HasVisibleOperands}
+use Rattle.mlir_tree.specs.WellFormed.{AreNumbered, AreNested, HasVisibleOperands, HasDictionaries, HasSizes, IsWellFormed}
 use Rattle.rewrite_model.specs.declared.run.Hit.{Hit}
 use Rattle.rewrite_model.specs.declared.run.Ending.TheVariants.{Converged}
 use Rattle.rewrite_model.specs.Pattern.{Pattern}
@@ -10,7 +10,8 @@ use Rattle.rewrite_model.specs.Things.{Thing}
 use Rattle.rewrite_model.specs.Determined.{IsDetermined, AreDetermined}
 use Rattle.rewrite_model.specs.Matching.{MatchesBy, Matches}
 use Rattle.rewrite_model.specs.Taken.{KeepsOrder}
-use Rattle.rewrite_model.specs.Step.{step}
+use Rattle.rewrite_model.specs.Making.{Progress}
+use Rattle.rewrite_model.specs.Step.{rewritten, step}
 use Rattle.rewrite_model.specs.Running.{Course, taken, NoneAmong, Runs}
 
 -- A pattern whose variables and operation expressions are all determined matches at an operation by at most one assignment.
@@ -44,6 +45,25 @@ StepsKeepOperandsVisible = (p : Pattern) (a : List Thing) (id : ℕ) (m n : Rows
 -- So it is in the module at the end of a run that begins at such a module.
 abbrev pub RunsKeepOperandsVisible : Type 0
 RunsKeepOperandsVisible = (ps : List Pattern) (n : ℕ) (m : Rows) (c : Course) → HasVisibleUses m → Runs ps n m c → HasVisibleUses c.rows
+
+-- All of well-formedness but that operands are visible.
+pub record IsLaidOut (m : Rows) : Type 0 where
+  pub numbers : AreNumbered m
+  pub nesting : AreNested m.rows
+  pub dictionaries : All HasDictionaries m.rows
+  pub sizes : All HasSizes m.rows
+
+-- What the actions of a rewrite leave is laid out.
+abbrev pub RewritesKeepLayout : Type 0
+RewritesKeepLayout = (p : Pattern) (a : List Thing) (id : ℕ) (m : Rows) (q : Progress) → IsLaidOut m → rewritten p a id m ≡ Ok q → IsLaidOut q.now
+
+-- A step leads from a well-formed module to a well-formed module.
+abbrev pub StepsKeepWellFormed : Type 0
+StepsKeepWellFormed = (p : Pattern) (a : List Thing) (id : ℕ) (m n : Rows) → IsWellFormed m → step p a id m ≡ Ok n → IsWellFormed n
+
+-- So does a run.
+abbrev pub RunsKeepWellFormed : Type 0
+RunsKeepWellFormed = (ps : List Pattern) (n : ℕ) (m : Rows) (c : Course) → IsWellFormed m → Runs ps n m c → IsWellFormed c.rows
 
 -- The numbers that a step made rise, and so do those that it removed.
 abbrev pub NumbersRise : Type 0

@@ -3,16 +3,15 @@
 use Rattle.std.specs.Prelude.{ℕ, ◌+◌, Bool, true, false, not, ◌&&◌, nat_eq, nat_le, if◌then◌else◌, List, [], ◌∷◌, ◌++◌, map, length, sum_by, slice_get, Option, Some, None, option_map, option_and_then, Result, Ok, Err}
 use Rattle.std.specs.List.{list_all, range_with_len}
 use Rattle.std.specs.Cmp.Lexicographic.{pointwise}
-use Rattle.std.specs.Ordering.{is_lt}
 use Rattle.mlir_tree.specs.declared.row.Row.{Row}
 use Rattle.mlir_tree.specs.declared.rows.Rows.{Rows}
 use Rattle.mlir_tree.specs.declared.value.Val.{Val}
 use Rattle.mlir_tree.specs.declared.value.Val.TheVariants.{Res}
 use Rattle.mlir_tree.specs.Tree.{Ty, Attr}
-use Rattle.mlir_tree.specs.Order.{text_cmp}
 use Rattle.mlir_tree.specs.Module.{row_of, has_row}
 use Rattle.mlir_tree.specs.Edits.{inserted, substituted, removed}
 use Rattle.mlir_tree.specs.Laws.{owner_of}
+use Rattle.mlir_parse.specs.Dictionary.{put_entry}
 use Rattle.native_set.specs.declared.native.Rewrite.{Rewrite}
 use Rattle.native_set.specs.declared.native.Rewrite.TheVariants.{AddInt, MulInt, NegInt}
 use Rattle.native_set.specs.Arithmetic.{sum, product, negative, is_same}
@@ -97,14 +96,10 @@ have_types rows vs ts = has (each (type_of rows) vs) where
   has (Some us) = are_types us ts
   has None = false
 
--- entries in the order of their names
-abbrev pub put_entry : List ℕ × Attr → List (List ℕ × Attr) → List (List ℕ × Attr)
-put_entry e [] = e ∷ []
-put_entry e (f ∷ fs) = if is_lt (text_cmp e.0 f.0) then e ∷ f ∷ fs else f ∷ put_entry e fs
-
+-- a dictionary with these entries, in the order of their names
 abbrev pub sorted : List (List ℕ × Attr) → List (List ℕ × Attr)
 sorted [] = []
-sorted (e ∷ es) = put_entry e (sorted es)
+sorted (e ∷ es) = put_entry e.0 e.1 (sorted es)
 
 abbrev pub native_result : Rewrite → List Thing → Option Attr
 native_result AddInt (an_attr a ∷ an_attr b ∷ []) = sum a b
