@@ -15,3 +15,4 @@ mod PutIn
 mod Places
 mod LayoutSubstituted
 mod LayoutRemoved
+mod LayoutInserted
