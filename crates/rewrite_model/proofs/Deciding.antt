@@ -177,12 +177,12 @@ module _ (rows : List Row) (a : List Thing) where
   described : (o : Parts Expr) (r : Row) → Decided (HasParts rows a o r)
   described o r = by (options (lists vals) (concatenated (values_denoted rows a) o.operands) (Some r.operands))
       (all (HasEntry rows a r) (entries r) o.entries) (options (lists types) (concatenated (types_denoted rows a) o.types) (Some r.results)) where
-    by : Decided (concatenated (values_denoted rows a) o.operands ≡ Some r.operands) → Decided (AllByRecursion (HasEntry rows a r) o.entries)
-        → Decided (concatenated (types_denoted rows a) o.types ≡ Some r.results) → Decided (HasParts rows a o r)
-    by (inl v) (inl e) (inl t) = inl (record { operands = v; entries = e; types = t })
-    by (inr q) e t = inr (λ d. q d.operands)
-    by (inl v) (inr q) t = inr (λ d. q d.entries)
-    by (inl v) (inl e) (inr q) = inr (λ d. q d.types)
+        by : Decided (concatenated (values_denoted rows a) o.operands ≡ Some r.operands) → Decided (AllByRecursion (HasEntry rows a r) o.entries)
+            → Decided (concatenated (types_denoted rows a) o.types ≡ Some r.results) → Decided (HasParts rows a o r)
+        by (inl v) (inl e) (inl t) = inl (record { operands = v; entries = e; types = t })
+        by (inr q) e t = inr (λ d. q d.operands)
+        by (inl v) (inr q) t = inr (λ d. q d.entries)
+        by (inl v) (inl e) (inr q) = inr (λ d. q d.types)
 
   natives : (c : Constraint) (ts : List Thing) → Decided (NativeHolds rows c ts)
   natives HasOneUse (a_value v ∷ []) = numbers (uses rows v) 1

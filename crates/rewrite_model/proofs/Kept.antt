@@ -1,6 +1,6 @@
 -- What is read of rows from which a row was removed with the rows inside it.
 use Rattle.std.proofs.Common.{◌≡◌, ℕ, Bool, true, false, not, ◌&&◌, ◌||◌, cond, List, [], ◌∷◌, map, reverse, Option, Some, None, refl, sym, ap, subst, ◌∙◌, ◌⊎◌, inl, inr, arith, eq-eqb}
-use Rattle.std.specs.Prelude.{◌==◌, filter, nat_eq, ⊤}
+use Rattle.std.specs.Prelude.{◌==◌, nat_eq, ⊤}
 use Rattle.std.specs.Option.{option_map_or}
 use Rattle.std.specs.List.{list_any, IsDistinct, AllByRecursion}
 use Rattle.std.proofs.lemmas.Bool.{eqb-true, ne_eqb}
@@ -124,4 +124,3 @@ enclosing-keep d rows u apart p =
     let stays : ℕ → Bool = λ n. not (is_gone d (reverse rows) n) in
     ap (λ l. homes_around l u) (sym (filter-reverse (λ r. stays r.id) rows))
     ∙ homes_around-keep d stays (reverse rows) (keeps d stays (reverse rows) (distinct-reverse rows apart) (λ n there. refl)) u p
-

@@ -1,14 +1,14 @@
 -- A new row just before another, in its block, leaves the rows laid out.
-use Rattle.std.proofs.Common.{◌≡◌, ◌≢◌, ◌⊎◌, inl, inr, ℕ, zero, suc, ◌+◌, ◌<◌, ◌≤◌, Bool, true, false, not, ◌&&◌, ◌||◌, cond, List, [], ◌∷◌, ◌++◌, map, length, get_or, Option, Some, None, option_map, refl, sym, ap, subst, ◌∙◌, arith, eq-eqb}
-use Rattle.std.specs.Prelude.{◌==◌, All, IfSome, IsSome, IsTrue, nat_eq}
+use Rattle.std.proofs.Common.{◌≡◌, ◌≢◌, ◌⊎◌, inl, inr, ℕ, zero, suc, ◌<◌, ◌≤◌, Bool, true, false, ◌||◌, List, [], ◌∷◌, ◌++◌, map, length, get_or, Option, Some, None, refl, sym, ap, subst, ◌∙◌, arith, eq-eqb}
+use Rattle.std.specs.Prelude.{◌==◌, All, IfSome, nat_eq}
 use Rattle.std.specs.List.{list_any, IsDistinct, AllByRecursion}
-use Rattle.std.proofs.lemmas.Bool.{ne_eqb, eqb-true}
+use Rattle.std.proofs.lemmas.Bool.{eqb-true}
 use Rattle.std.proofs.lemmas.Bool.Decides.{nat_tests}
 use Rattle.std.proofs.lemmas.List.Elements.{All-from_recursion, recursion_from_All}
 use Rattle.mlir_tree.specs.declared.row.Home.{Home}
 use Rattle.mlir_tree.specs.declared.row.Row.{Row}
-use Rattle.mlir_tree.specs.Module.{row_of, has_row, is_earlier, enclosing, home_eq, is_inside, is_contained}
-use Rattle.mlir_tree.specs.WellFormed.{AreDistinct, IsModuleRow, BeginsWithModule, IsEarlierRegion, AreNested}
+use Rattle.mlir_tree.specs.Module.{has_row, is_earlier, enclosing, home_eq, is_inside, is_contained}
+use Rattle.mlir_tree.specs.WellFormed.{AreDistinct, IsEarlierRegion, AreNested}
 use Rattle.mlir_tree.specs.Laws.{is_parent}
 use Rattle.mlir_tree.proofs.Visibility.{or_false}
 use Rattle.mlir_resolve.specs.Walking.{number_at}
@@ -66,11 +66,11 @@ module _ (rows : List Row) (apart : AreDistinct rows) (nested : AreNested rows) 
     by (inl (h, p, is, before, e)) go =
         of (either (home_eq (region d g) h) (is_inside rows h.row (region d g)) (sym (ap (list_any (home_eq (region d g))) e) ∙ i))
         (either (home_eq (region d k) h) (is_inside rows h.row (region d k)) (sym (ap (list_any (home_eq (region d k))) e) ∙ i')) where
-      of : (home_eq (region d g) h ≡ true) ⊎ (is_inside rows h.row (region d g) ≡ true) → (home_eq (region d k) h ≡ true) ⊎ (is_inside rows h.row (region d k) ≡ true) → g ≡ k
-      of (inl a) (inl b) = (is_home d g h a).1 ∙ sym (is_home d k h b).1
-      of (inr a) (inr b) = go p h.row (omega (arith, l, before)) is a b
-      of (inl a) (inr b) = absurd (not_inside_itself p h.row k r is (subst (λ n. is_inside rows h.row (region n k) ≡ true) (is_home d g h a).0 b))
-      of (inr a) (inl b) = absurd (not_inside_itself p h.row g r is (subst (λ n. is_inside rows h.row (region n g) ≡ true) (is_home d k h b).0 a))
+          of : (home_eq (region d g) h ≡ true) ⊎ (is_inside rows h.row (region d g) ≡ true) → (home_eq (region d k) h ≡ true) ⊎ (is_inside rows h.row (region d k) ≡ true) → g ≡ k
+          of (inl a) (inl b) = (is_home d g h a).1 ∙ sym (is_home d k h b).1
+          of (inr a) (inr b) = go p h.row (omega (arith, l, before)) is a b
+          of (inl a) (inr b) = absurd (not_inside_itself p h.row k r is (subst (λ n. is_inside rows h.row (region n k) ≡ true) (is_home d g h a).0 b))
+          of (inr a) (inl b) = absurd (not_inside_itself p h.row g r is (subst (λ n. is_inside rows h.row (region n g) ≡ true) (is_home d k h b).0 a))
 
 -- ---- lists with one more member
 
@@ -192,10 +192,10 @@ module _ (ys zs : List Row) (x : Row) (root : ℕ) (h : Home) (apart : AreDistin
     by : ((u == x.id) ≡ true) ⊎ ((u == x.id) ≡ false) → ⊥
     by (inl e) =
         not_both (is_contained more u x.id) c
-          (ap (λ n. is_contained more n x.id) (eqb-true u x.id e) ∙ (ap (list_any (λ (k : Home). k.row == x.id)) same_around ∙ enclosing-new x.id rows root no_parent))
+        (ap (λ n. is_contained more n x.id) (eqb-true u x.id e) ∙ (ap (list_any (λ (k : Home). k.row == x.id)) same_around ∙ enclosing-new x.id rows root no_parent))
     by (inr n) =
         not_both (is_contained more u x.id) c
-          (ap (list_any (λ (k : Home). k.row == x.id)) (enclosing-inserted ys zs x u no_parent (λ e. not_both (u == x.id) (eq-eqb u x.id e) n)) ∙ enclosing-new x.id rows u no_parent)
+        (ap (list_any (λ (k : Home). k.row == x.id)) (enclosing-inserted ys zs x u no_parent (λ e. not_both (u == x.id) (eq-eqb u x.id e) n)) ∙ enclosing-new x.id rows u no_parent)
 
   differs : (u : ℕ) → (u == x.id) ≡ false → u ≢ x.id
   differs u n e = not_both (u == x.id) (eq-eqb u x.id e) n
@@ -206,23 +206,23 @@ module _ (ys zs : List Row) (x : Row) (root : ℕ) (h : Home) (apart : AreDistin
   homes = All-from_recursion (λ r. IfSome r.home (IsEarlierRegion more r.id)) more
       (with_one (λ r. IfSome r.home (IsEarlierRegion rows r.id)) (λ r. IfSome r.home (IsEarlierRegion more r.id)) old x (subst (λ o. IfSome o (IsEarlierRegion more x.id)) (sym home) its) ys zs
       (recursion_from_All (λ r. IfSome r.home (IsEarlierRegion rows r.id)) rows nested.homes)) where
-    moved : (u : ℕ) (k : Home) → IsEarlierRegion rows u k → IsEarlierRegion more u k
-    moved u k e =
-        let a = not_new k.row (earlier_is_row rows k.row u e.0) in
-        let b = not_new u (later_is_row rows k.row u e.0) in
-        (is_earlier-inserted ys zs x k.row u a b ∙ e.0, subst (λ o. IfSome o (λ r. k.region < length r.regions)) (sym (row_of-inserted ys zs x k.row a)) e.1)
+        moved : (u : ℕ) (k : Home) → IsEarlierRegion rows u k → IsEarlierRegion more u k
+        moved u k e =
+            let a = not_new k.row (earlier_is_row rows k.row u e.0) in
+            let b = not_new u (later_is_row rows k.row u e.0) in
+            (is_earlier-inserted ys zs x k.row u a b ∙ e.0, subst (λ o. IfSome o (λ r. k.region < length r.regions)) (sym (row_of-inserted ys zs x k.row a)) e.1)
 
-    old : (r : Row) → IfSome r.home (IsEarlierRegion rows r.id) → IfSome r.home (IsEarlierRegion more r.id)
-    old r i = with_home r.home (IsEarlierRegion rows r.id) (IsEarlierRegion more r.id) (moved r.id) i
+        old : (r : Row) → IfSome r.home (IsEarlierRegion rows r.id) → IfSome r.home (IsEarlierRegion more r.id)
+        old r i = with_home r.home (IsEarlierRegion rows r.id) (IsEarlierRegion more r.id) (moved r.id) i
 
-    of_root : IsEarlierRegion rows (get_or rows (length ys) x).id h
-    of_root = subst (λ o. IfSome o (IsEarlierRegion rows (get_or rows (length ys) x).id)) root_home (nested.homes (length ys) x (within rows (length ys) root at))
+        of_root : IsEarlierRegion rows (get_or rows (length ys) x).id h
+        of_root = subst (λ o. IfSome o (IsEarlierRegion rows (get_or rows (length ys) x).id)) root_home (nested.homes (length ys) x (within rows (length ys) root at))
 
-    its : IsEarlierRegion more x.id h
-    its = (
-      less_earlier more apart' parent.0 (length ys) h.row x.id parent_at (new_place x ys zs) parent.2,
-      subst (λ o. IfSome o (λ r. h.region < length r.regions)) (sym (row_of-inserted ys zs x h.row parent_is)) of_root.1,
-    )
+        its : IsEarlierRegion more x.id h
+        its = (
+          less_earlier more apart' parent.0 (length ys) h.row x.id parent_at (new_place x ys zs) parent.2,
+          subst (λ o. IfSome o (λ r. h.region < length r.regions)) (sym (row_of-inserted ys zs x h.row parent_is)) of_root.1,
+        )
 
   contained_old : (u d : ℕ) → u ≢ x.id → is_contained more u d ≡ is_contained rows u d
   contained_old u d n = ap (list_any (λ (k : Home). k.row == d)) (enclosing-inserted ys zs x u no_parent n)
@@ -253,7 +253,7 @@ module _ (ys zs : List Row) (x : Row) (root : ℕ) (h : Home) (apart : AreDistin
     by (inr n) (inr e) (inr f) =
         contained_old between d (differs between e)
         ∙ nested.together d between u (sym (is_earlier-inserted ys zs x d between (differs d n) (differs between e)) ∙ p)
-          (sym (is_earlier-inserted ys zs x between u (differs between e) (differs u f)) ∙ q) (sym (contained_old u d (differs u f)) ∙ c)
+        (sym (is_earlier-inserted ys zs x between u (differs between e) (differs u f)) ∙ q) (sym (contained_old u d (differs u f)) ∙ c)
 
   inside_old : (u d g : ℕ) → u ≢ x.id → is_inside more u (region rows apart nested d g) ≡ is_inside rows u (region rows apart nested d g)
   inside_old u d g n = ap (list_any (home_eq (region rows apart nested d g))) (enclosing-inserted ys zs x u no_parent n)
@@ -278,10 +278,10 @@ module _ (ys zs : List Row) (x : Row) (root : ℕ) (h : Home) (apart : AreDistin
     by (inr a) (inl b) =
         let w : v ≡ x.id = eqb-true v x.id b in
         nested.by_region d g k u root (sym (inside_old u d g (differs u a)) ∙ p)
-          (sym (inside_new d k) ∙ (ap (λ n. is_inside more n (region rows apart nested d k)) (sym w) ∙ q)) (before_new u (ap (is_earlier more u) (sym w) ∙ e))
+        (sym (inside_new d k) ∙ (ap (λ n. is_inside more n (region rows apart nested d k)) (sym w) ∙ q)) (before_new u (ap (is_earlier more u) (sym w) ∙ e))
     by (inr a) (inr b) =
         nested.by_region d g k u v (sym (inside_old u d g (differs u a)) ∙ p) (sym (inside_old v d k (differs v b)) ∙ q)
-          (sym (is_earlier-inserted ys zs x u v (differs u a) (differs v b)) ∙ e)
+        (sym (is_earlier-inserted ys zs x u v (differs u a) (differs v b)) ∙ e)
 
   pub nested_inserted : AreNested more
   nested_inserted = record { homes = homes; together = together; by_region = by_region }

@@ -1,15 +1,14 @@
 -- Removing a row with the rows inside it leaves the layout of the others as it is.
-use Rattle.std.proofs.Common.{◌≡◌, ◌≢◌, ◌⊎◌, inl, inr, ℕ, ◌<◌, ◌≤◌, Bool, true, false, not, ◌&&◌, ◌||◌, cond, List, [], ◌∷◌, map, length, get_or, Option, Some, None, refl, sym, ap, subst, ◌∙◌, arith, eq-eqb}
-use Rattle.std.specs.Prelude.{◌==◌, All, IfSome, IsSome, IsTrue, nat_eq, filter, slice_get}
-use Rattle.std.specs.Option.{option_map}
+use Rattle.std.proofs.Common.{◌≡◌, ◌≢◌, ℕ, ◌<◌, Bool, true, false, not, ◌||◌, cond, List, [], ◌∷◌, map, length, get_or, Option, Some, None, refl, sym, ap, subst, ◌∙◌}
+use Rattle.std.specs.Prelude.{◌==◌, All, IfSome, IsSome, nat_eq, filter}
 use Rattle.std.specs.List.{list_any, IsDistinct, AllByRecursion}
 use Rattle.std.proofs.lemmas.Bool.{ne_eqb, eqb-true}
 use Rattle.std.proofs.lemmas.List.Elements.{All-filter, All-from_recursion, recursion_from_All}
 use Rattle.mlir_tree.specs.declared.row.Home.{Home}
 use Rattle.mlir_tree.specs.declared.row.Row.{Row}
 use Rattle.mlir_tree.specs.declared.rows.Rows.{Rows}
-use Rattle.mlir_tree.specs.Module.{row_of, has_row, is_earlier, enclosing, home_eq, is_inside, is_contained}
-use Rattle.mlir_tree.specs.WellFormed.{AreDistinct, IsModuleRow, BeginsWithModule, AreNumbered, IsEarlierRegion, AreNested, HasDictionaries, HasSizes}
+use Rattle.mlir_tree.specs.Module.{has_row, enclosing, home_eq, is_contained}
+use Rattle.mlir_tree.specs.WellFormed.{AreDistinct, IsModuleRow, BeginsWithModule, IsEarlierRegion, AreNested, HasDictionaries, HasSizes}
 use Rattle.mlir_tree.specs.Edits.{is_removed, removed}
 use Rattle.mlir_tree.proofs.Removal.{keep}
 use Rattle.mlir_tree.proofs.Visibility.{or_false}
@@ -17,8 +16,7 @@ use Rattle.mlir_resolve.specs.Walking.{number_at}
 use Rattle.mlir_resolve.proofs.Searching.{at_place}
 use Rattle.rewrite_model.specs.Laws.{IsLaidOut}
 use Rattle.rewrite_model.proofs.Kept.{row_of-keep, is_earlier-keep, enclosing-keep}
-use Rattle.rewrite_model.proofs.LayoutSubstituted.{with_home}
-use Rattle.rewrite_model.proofs.Places.{true_or_false, not_both, earlier_is_row, later_is_row, around_home, around_none}
+use Rattle.rewrite_model.proofs.Places.{earlier_is_row, later_is_row, around_home, around_none}
 
 -- ---- lists of which some members are kept
 
@@ -85,13 +83,13 @@ module _ (id : ℕ) (top : id ≢ 0) (m : Rows) (l : IsLaidOut m) where
   homes = All-from_recursion (λ r. IfSome r.home (IsEarlierRegion kept r.id)) kept
       (keeps_all (λ r. stays r.id) (λ r. IfSome r.home (IsEarlierRegion kept r.id)) m.rows
       (recursion_from_All (λ r. stays r.id ≡ true → IfSome r.home (IsEarlierRegion kept r.id)) m.rows each)) where
-    each : All (λ r. stays r.id ≡ true → IfSome r.home (IsEarlierRegion kept r.id)) m.rows
-    each k d fits s = by (get_or m.rows k d).home refl (l.nesting.homes k d fits) where
-      by : (o : Option Home) → (get_or m.rows k d).home ≡ o → IfSome o (IsEarlierRegion m.rows (get_or m.rows k d).id) → IfSome o (IsEarlierRegion kept (get_or m.rows k d).id)
-      by None e h = h
-      by (Some h) e i =
-          let t = home_stays k d h fits e s in
-          (is_earlier-keep stays m.rows h.row (get_or m.rows k d).id t s ∙ i.0, subst (λ o. IfSome o (λ r. h.region < length r.regions)) (sym (row_of-keep stays m.rows h.row t)) i.1)
+        each : All (λ r. stays r.id ≡ true → IfSome r.home (IsEarlierRegion kept r.id)) m.rows
+        each k d fits s = by (get_or m.rows k d).home refl (l.nesting.homes k d fits) where
+          by : (o : Option Home) → (get_or m.rows k d).home ≡ o → IfSome o (IsEarlierRegion m.rows (get_or m.rows k d).id) → IfSome o (IsEarlierRegion kept (get_or m.rows k d).id)
+          by None e h = h
+          by (Some h) e i =
+              let t = home_stays k d h fits e s in
+              (is_earlier-keep stays m.rows h.row (get_or m.rows k d).id t s ∙ i.0, subst (λ o. IfSome o (λ r. h.region < length r.regions)) (sym (row_of-keep stays m.rows h.row t)) i.1)
 
   nested : AreNested kept
   nested = record {
@@ -102,12 +100,12 @@ module _ (id : ℕ) (top : id ≢ 0) (m : Rows) (l : IsLaidOut m) where
         let su = stays_there stays m.rows u (later_is_row kept between u q) in
         ap (list_any (λ (h : Home). h.row == d)) (same_enclosing between sb)
         ∙ l.nesting.together d between u (sym (is_earlier-keep stays m.rows d between sd sb) ∙ p) (sym (is_earlier-keep stays m.rows between u sb su) ∙ q)
-          (ap (list_any (λ (h : Home). h.row == d)) (sym (same_enclosing u su)) ∙ c);
+        (ap (list_any (λ (h : Home). h.row == d)) (sym (same_enclosing u su)) ∙ c);
     by_region = λ d g k u v p q e.
         let su = stays_there stays m.rows u (earlier_is_row kept u v e) in
         let sv = stays_there stays m.rows v (later_is_row kept u v e) in
         l.nesting.by_region d g k u v (ap (list_any (home_eq (record { row = d; region = g }))) (sym (same_enclosing u su)) ∙ p)
-          (ap (list_any (home_eq (record { row = d; region = k }))) (sym (same_enclosing v sv)) ∙ q) (sym (is_earlier-keep stays m.rows u v su sv) ∙ e);
+        (ap (list_any (home_eq (record { row = d; region = k }))) (sym (same_enclosing v sv)) ∙ q) (sym (is_earlier-keep stays m.rows u v su sv) ∙ e);
   }
 
   -- the module stands first

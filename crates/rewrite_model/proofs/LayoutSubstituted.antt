@@ -1,14 +1,14 @@
 -- Other operands leave the layout of a module as it is.
-use Rattle.std.proofs.Common.{◌≡◌, ℕ, suc, ◌<◌, ◌≤◌, ◌^◌, Bool, true, false, List, [], ◌∷◌, map, length, Option, Some, None, option_map, refl, sym, ap, subst, ◌∙◌, arith}
-use Rattle.std.specs.Prelude.{All, IfSome, IsSome, IsTrue, nat_eq}
+use Rattle.std.proofs.Common.{◌≡◌, ℕ, ◌<◌, ◌^◌, List, [], ◌∷◌, map, length, Option, Some, None, option_map, refl, sym, ap, subst, ◌∙◌}
+use Rattle.std.specs.Prelude.{IfSome, IsSome, nat_eq}
 use Rattle.std.specs.List.{list_any, IsDistinct}
 use Rattle.std.proofs.lemmas.List.Elements.{All-map, All-weaker}
 use Rattle.mlir_tree.specs.declared.row.Home.{Home}
 use Rattle.mlir_tree.specs.declared.row.Row.{Row}
 use Rattle.mlir_tree.specs.declared.rows.Rows.{Rows}
 use Rattle.mlir_tree.specs.declared.value.Val.{Val}
-use Rattle.mlir_tree.specs.Module.{row_of, is_earlier, enclosing, home_eq, is_inside, is_contained}
-use Rattle.mlir_tree.specs.WellFormed.{AreDistinct, IsModuleRow, BeginsWithModule, AreNumbered, IsEarlierRegion, AreNested, HasDictionaries, HasSizes}
+use Rattle.mlir_tree.specs.Module.{row_of, home_eq, is_inside, is_contained}
+use Rattle.mlir_tree.specs.WellFormed.{BeginsWithModule, IsEarlierRegion, AreNested, HasDictionaries, HasSizes}
 use Rattle.mlir_tree.specs.Edits.{substitute, substituted_row, substituted}
 use Rattle.mlir_tree.proofs.Substitution.{row_of-substituted, is_earlier-substituted, enclosing-substituted}
 use Rattle.rewrite_model.specs.Laws.{IsLaidOut}
@@ -30,8 +30,12 @@ module _ (from to : List Val) where
   begins [] h = h
   begins (r ∷ rows) h = (
     record {
-      number = h.0.number; no_home = h.0.no_home; name = h.0.name; one_region = h.0.one_region;
-      no_operands = ap (map (substitute from to)) h.0.no_operands; no_results = h.0.no_results;
+      number = h.0.number;
+      no_home = h.0.no_home;
+      name = h.0.name;
+      one_region = h.0.one_region;
+      no_operands = ap (map (substitute from to)) h.0.no_operands;
+      no_results = h.0.no_results;
     },
     All-map (λ r. IsSome r.home) (substituted_row from to) rows h.1,
   )
@@ -66,7 +70,9 @@ module _ (from to : List Val) where
   sizes : (r : Row) → HasSizes r → HasSizes (substituted_row from to r)
   sizes r s = record {
     operands = subst (λ n. n < 2 ^ 16) (sym (same_length (substitute from to) r.operands)) s.operands;
-    results = s.results; regions = s.regions; arguments = s.arguments;
+    results = s.results;
+    regions = s.regions;
+    arguments = s.arguments;
   }
 
   dictionaries : (r : Row) → HasDictionaries r → HasDictionaries (substituted_row from to r)

@@ -16,3 +16,5 @@ mod Places
 mod LayoutSubstituted
 mod LayoutRemoved
 mod LayoutInserted
+mod Layouts
+mod WellFormedSteps

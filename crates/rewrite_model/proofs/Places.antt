@@ -1,17 +1,15 @@
 -- Rows by their places, and the regions around a row.
-use Rattle.std.proofs.Common.{◌≡◌, ◌≢◌, ◌⊎◌, inl, inr, ℕ, zero, suc, ◌+◌, ◌<◌, ◌≤◌, Bool, true, false, not, ◌&&◌, ◌||◌, cond, List, [], ◌∷◌, length, get_or, Option, Some, None, refl, sym, ap, subst, ◌∙◌, arith, eq-eqb}
-use Rattle.std.specs.Prelude.{◌==◌, nat_lt, IfSome, IsTrue, slice_get}
-use Rattle.std.specs.Option.{option_map_or, option_and_then, option_map}
-use Rattle.std.specs.List.{list_any}
-use Rattle.std.proofs.lemmas.Bool.{eqb-true, ne_eqb}
+use Rattle.std.proofs.Common.{◌≡◌, ◌⊎◌, inl, inr, ℕ, zero, suc, ◌<◌, Bool, true, false, ◌||◌, List, [], ◌∷◌, length, get_or, Some, None, refl, sym, ap, ◌∙◌, arith, eq-eqb}
+use Rattle.std.specs.Prelude.{◌==◌, nat_lt}
+use Rattle.std.proofs.lemmas.Bool.{eqb-true}
 use Rattle.std.proofs.lemmas.Bool.Decides.{nat_tests}
 use Rattle.mlir_tree.specs.declared.row.Home.{Home}
 use Rattle.mlir_tree.specs.declared.row.Row.{Row}
-use Rattle.mlir_tree.specs.Module.{row_of, has_row, is_earlier, home_of, home_eq, enclosing, is_inside, is_contained}
-use Rattle.mlir_tree.specs.WellFormed.{AreDistinct, AreNested, IsEarlierRegion}
+use Rattle.mlir_tree.specs.Module.{has_row, is_earlier, enclosing}
+use Rattle.mlir_tree.specs.WellFormed.{AreDistinct, AreNested}
 use Rattle.mlir_resolve.specs.Walking.{around_place, number_at}
-use Rattle.mlir_resolve.proofs.Searching.{at_place, within, read_at}
-use Rattle.mlir_resolve.proofs.Walks.{one_place, enclosed_at, outer_home, no_home, not_later, not_earlier, earlier_place, row_at, home_before, home_there}
+use Rattle.mlir_resolve.proofs.Searching.{within, read_at}
+use Rattle.mlir_resolve.proofs.Walks.{enclosed_at, outer_home, no_home, not_later, not_earlier, earlier_place, home_before, home_there}
 
 pub true_or_false : (b : Bool) → (b ≡ true) ⊎ (b ≡ false)
 true_or_false true = inl refl

@@ -67,7 +67,6 @@ enclosing-inserted ys zs x u p other =
     ap (λ l. homes_around l u) (reverse-inserted ys zs x)
     ∙ (homes_around-inserted (reverse zs) (reverse ys) x u q other ∙ ap (λ l. homes_around l u) (sym (reverse-append ys zs)))
 
-
 -- a number that no home names has no row around which it is
 around-new : (n : ℕ) (rows : List Row) (u : ℕ) → is_parent rows n ≡ false → list_any (λ h. h.row == n) (homes_around rows u) ≡ false
 around-new n [] u p = refl

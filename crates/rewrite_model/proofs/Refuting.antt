@@ -1,18 +1,18 @@
 -- A quick test by which a pattern doesn't match at an operation: its one candidate for an assignment is missing, or fails
 -- a demand for a name or for one use. For worked examples.
-use Rattle.std.proofs.Common.{◌≡◌, ℕ, Bool, true, false, ◌&&◌, List, [], ◌∷◌, Option, Some, None, option_map, refl, sym, ap, ◌∙◌, subst, eq-eqb}
-use Rattle.std.specs.Prelude.{◌==◌, bytes_eq, slice_get}
+use Rattle.std.proofs.Common.{◌≡◌, ℕ, Bool, true, false, ◌&&◌, List, [], ◌∷◌, Option, Some, None, option_map, refl, sym, ap, ◌∙◌, eq-eqb}
+use Rattle.std.specs.Prelude.{◌==◌, bytes_eq}
 use Rattle.std.specs.List.{AllByRecursion}
 use Rattle.std.specs.Option.{option_map_or}
 use Rattle.std.proofs.lemmas.Slice.Eq.{bytes_eq-Decides}
 use Rattle.mlir_tree.specs.declared.row.Row.{Row}
 use Rattle.native_set.specs.declared.native.Constraint.{Constraint}
-use Rattle.native_set.specs.declared.native.Constraint.TheVariants.{HasOneUse, HasNoUse, IsInt, IsZero, SameBlock, NoRegions}
-use Rattle.rewrite_model.specs.Pattern.{Expr, Demand, has_name, has_parts, has_type, stands, calls, Pattern}
+use Rattle.native_set.specs.declared.native.Constraint.TheVariants.{HasOneUse}
+use Rattle.rewrite_model.specs.Pattern.{Demand, has_name, has_parts, has_type, stands, calls, Pattern}
 use Rattle.rewrite_model.specs.Determined.{IsDetermined}
-use Rattle.rewrite_model.specs.Things.{Thing, an_op, a_value, some_values, an_attr, a_type, some_types, each, denoted}
+use Rattle.rewrite_model.specs.Things.{Thing, a_value, each, denoted}
 use Rattle.rewrite_model.specs.Holding.{row_given, uses, NativeHolds, Holds}
-use Rattle.rewrite_model.specs.Matching.{MatchesBy, Matches, NoneAt}
+use Rattle.rewrite_model.specs.Matching.{Matches}
 use Rattle.rewrite_model.proofs.Told.{some_or}
 use Rattle.rewrite_model.proofs.Unique.{candidate, is_candidate}
 

@@ -1,16 +1,14 @@
 -- Runs of which the checker computes each step.
-use Rattle.std.specs.Prelude.{◌≡◌, ℕ, zero, suc, ◌<◌, ◌≤◌, false, List, [], ◌∷◌, take, drop, slice_get, Some, None, codes}
-use Rattle.std.specs.List.{AllByRecursion}
+use Rattle.std.specs.Prelude.{◌≡◌, ℕ, zero, suc, ◌<◌, ◌≤◌, false, List, [], ◌∷◌, take, drop, slice_get, Some, codes}
 use Rattle.std.proofs.Common.{◌⊎◌, inl, inr, refl, sym, ap, subst, arith}
 use Rattle.mlir_tree.specs.declared.row.Row.{Row}
-use Rattle.mlir_tree.specs.declared.rows.Rows.{Rows}
 use Rattle.mlir_tree.specs.declared.value.Val.TheVariants.{Res}
 use Rattle.rewrite_model.specs.declared.run.Hit.{Hit}
 use Rattle.rewrite_model.specs.declared.run.Ending.TheVariants.{Converged}
-use Rattle.rewrite_model.specs.Pattern.{Parts, Expr, the, only_result, Demand, has_name, has_parts, stands, Pattern}
+use Rattle.rewrite_model.specs.Pattern.{Parts, Expr, the, only_result, has_parts, Pattern}
 use Rattle.rewrite_model.specs.Determined.{IsIn, Determined, given_one, part_of, IsDetermined}
-use Rattle.rewrite_model.specs.Matching.{Matches, MatchesBy, NoneAt, IsBest}
-use Rattle.rewrite_model.specs.Running.{Course, NoneAmong, IsNext, Runs, converges, goes_on}
+use Rattle.rewrite_model.specs.Matching.{Matches, NoneAt, IsBest}
+use Rattle.rewrite_model.specs.Running.{NoneAmong, IsNext, Runs, converges, goes_on}
 use Rattle.mlir_tree.specs.Tree.{word}
 use Rattle.rewrite_model.proofs.Samples.{op}
 use Rattle.rewrite_model.proofs.Told.{some_or}

@@ -1,6 +1,6 @@
 -- What the actions of a rewrite do to a module, one after another (PDLL document, "Rewrites"; pdl dialect, "pdl.replace",
 -- "pdl.erase"). The breaks and their order are this project's.
-use Rattle.std.specs.Prelude.{ℕ, ◌+◌, Bool, true, false, not, ◌&&◌, nat_eq, nat_le, if◌then◌else◌, List, [], ◌∷◌, ◌++◌, map, length, sum_by, slice_get, Option, Some, None, option_map, option_and_then, Result, Ok, Err}
+use Rattle.std.specs.Prelude.{ℕ, ◌+◌, Bool, true, false, not, ◌&&◌, nat_eq, nat_le, List, [], ◌∷◌, ◌++◌, map, length, sum_by, slice_get, Option, Some, None, option_map, option_and_then, Result, Ok, Err}
 use Rattle.std.specs.List.{list_all, range_with_len}
 use Rattle.std.specs.Cmp.Lexicographic.{pointwise}
 use Rattle.mlir_tree.specs.declared.row.Row.{Row}

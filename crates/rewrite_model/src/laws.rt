@@ -1,6 +1,6 @@
 //! Laws of the definitions. Each is a call that does nothing and promises the law.
 
-ghost use Rattle.rewrite_model.specs.Laws.{AtMostOneAssignment, MatchesAreDecided, OneRun, ConvergedRunsMatchNowhere, StepsKeepOperandsVisible, RunsKeepOperandsVisible, NumbersRise};
+ghost use Rattle.rewrite_model.specs.Laws.{AtMostOneAssignment, MatchesAreDecided, OneRun, ConvergedRunsMatchNowhere, StepsKeepOperandsVisible, RunsKeepOperandsVisible, RewritesKeepLayout, StepsKeepWellFormed, RunsKeepWellFormed, NumbersRise};
 
 /// A pattern whose variables and operation expressions are all determined, and whose lists have at most one range each,
 /// matches at an operation by at most one assignment.
@@ -31,6 +31,21 @@ pub fn steps_keep_operands_visible()
 /// So it is after a run from a module in which it is so.
 pub fn runs_keep_operands_visible()
     ensures { RunsKeepOperandsVisible }
+{}
+
+/// Whatever the actions of a pattern leave keeps all of well-formedness but that operands are visible.
+pub fn rewrites_keep_layout()
+    ensures { RewritesKeepLayout }
+{}
+
+/// A step leads from a well-formed module to a well-formed module.
+pub fn steps_keep_well_formed()
+    ensures { StepsKeepWellFormed }
+{}
+
+/// So does a run.
+pub fn runs_keep_well_formed()
+    ensures { RunsKeepWellFormed }
 {}
 
 /// The numbers of the operations that a step made rise, and so do those of the operations that it removed.
