@@ -20,7 +20,7 @@ use Rattle.native_set.specs.declared.native.Kind.{Kind}
 use Rattle.native_set.specs.declared.native.Constraint.{Constraint}
 use Rattle.native_set.specs.declared.native.Constraint.TheVariants.{HasOneUse, HasNoUse, IsInt, IsZero, SameBlock, NoRegions}
 use Rattle.native_set.specs.Arithmetic.{is_int, is_zero}
-use Rattle.rewrite_model.specs.Pattern.{Parts, Expr, Demand, has_parts, has_name, has_type, stands, calls, Pattern}
+use Rattle.rewrite_model.specs.Pattern.{Parts, Expr, Demand, is_attr, is_type, has_parts, has_name, has_type, stands, calls, Pattern}
 use Rattle.rewrite_model.specs.Things.{Thing, an_op, a_value, some_values, an_attr, a_type, some_types, kind_of, is_thing, IsAssignment, each, concatenated, denoted, values_denoted, types_denoted}
 use Rattle.rewrite_model.specs.Holding.{HasEntry, HasParts, row_given, thing_type, uses, result_uses, NativeHolds, Holds}
 use Rattle.rewrite_model.specs.Matching.{MatchesBy, Matches}
@@ -195,6 +195,8 @@ module _ (rows : List Row) (a : List Thing) where
 
   holding : (d : Demand) → Decided (Holds rows a d)
   holding (has_parts x o) = found (row_given rows a x) (HasParts rows a o) (described o)
+  holding (is_attr x v) = options things (slice_get a x) (Some (an_attr v))
+  holding (is_type x t) = options things (slice_get a x) (Some (a_type t))
   holding (has_name x n) = options texts (option_map (λ r. r.name) (row_given rows a x)) (Some n)
   holding (has_type x e) = found (denoted rows a e) (λ t. option_and_then (thing_type rows) (slice_get a x) ≡ Some t) (λ t. options things (option_and_then (thing_type rows) (slice_get a x)) (Some t))
   holding (stands e) = by (denoted rows a e) where

@@ -11,7 +11,7 @@ use Rattle.mlir_tree.specs.Edits.{inserted, put_before, substituted, removed}
 use Rattle.native_set.specs.declared.native.Kind.TheVariants as kind
 use Rattle.rewrite_model.specs.declared.run.Break.TheVariants.{Gone, Top, NativeRefused, BadUse}
 use Rattle.rewrite_model.specs.declared.run.BoundKind.TheVariants.{RowLimit, SlotLimit}
-use Rattle.rewrite_model.specs.Pattern.{the, attr_literal, Part, has_name, has_parts, matched, made, new_operation, results_of, result_types_of, makes, replaces, erases, Pattern}
+use Rattle.rewrite_model.specs.Pattern.{the, Part, stands, has_name, has_parts, matched, made, new_operation, results_of, result_types_of, makes, replaces, erases, Pattern}
 use Rattle.rewrite_model.specs.Things.{Thing, an_op, a_value, some_values, an_attr, some_types}
 use Rattle.rewrite_model.specs.Matching.{MatchesBy}
 use Rattle.rewrite_model.specs.Making.{breaks, bound, Start, Progress, Outcome, making}
@@ -45,7 +45,7 @@ shapes_given = a_value (Res 1 0) ∷ some_types (word (codes "tensor<2x2xf32>") 
 pub shapes_match : MatchesBy shapes.rows reshape_reshape shapes_given 3
 shapes_match = record {
   assigned = record { kinds_fit = refl; are_things = refl };
-  holds = (refl, ((_, refl, record { operands = refl; entries = tt; types = refl }), ((_, refl), (refl, ((_, refl, record { operands = refl; entries = tt; types = refl }), ((_, refl), tt))))));
+  holds = ((_, refl), ((_, refl), (refl, ((_, refl, record { operands = refl; entries = tt; types = refl }), ((_, refl), ((_, refl), (refl, ((_, refl, record { operands = refl; entries = tt; types = refl }), tt))))))));
   root = refl;
 }
 
@@ -71,7 +71,7 @@ one_a_given ts = some_values [] ∷ some_types ts ∷ an_op 1 ∷ []
 pub one_a_matches : MatchesBy (one_a []).rows low (one_a_given []) 1
 one_a_matches = record {
   assigned = record { kinds_fit = refl; are_things = refl };
-  holds = (refl, ((_, refl, record { operands = refl; entries = tt; types = refl }), tt));
+  holds = ((_, refl), ((_, refl), (refl, ((_, refl, record { operands = refl; entries = tt; types = refl }), tt))));
   root = refl;
 }
 
@@ -100,7 +100,7 @@ subs_given = a_value (Res 1 1) ∷ some_types (i32 ∷ []) ∷ an_op 3 ∷ []
 pub subs_match : MatchesBy subs.rows same subs_given 3
 subs_match = record {
   assigned = record { kinds_fit = refl; are_things = refl };
-  holds = (refl, ((_, refl, record { operands = refl; entries = tt; types = refl }), tt));
+  holds = ((_, refl), ((_, refl), (refl, ((_, refl, record { operands = refl; entries = tt; types = refl }), tt))));
   root = refl;
 }
 
@@ -140,7 +140,7 @@ a_twice_given = some_values [] ∷ some_types (i32 ∷ []) ∷ an_op 1 ∷ some_
 two_match : MatchesBy a_twice.rows two a_twice_given 2
 two_match = record {
   assigned = record { kinds_fit = refl; are_things = refl };
-  holds = (refl, ((_, refl, record { operands = refl; entries = tt; types = refl }), ((_, refl), (refl, ((_, refl, record { operands = refl; entries = tt; types = refl }), ((_, refl), (refl, ((_, refl, record { operands = refl; entries = tt; types = refl }), ((_, refl), tt)))))))));
+  holds = ((_, refl), ((_, refl), (refl, ((_, refl, record { operands = refl; entries = tt; types = refl }), ((_, refl), ((_, refl), (refl, ((_, refl, record { operands = refl; entries = tt; types = refl }), ((_, refl), ((_, refl), ((_, refl), (refl, ((_, refl, record { operands = refl; entries = tt; types = refl }), tt)))))))))))));
   root = refl;
 }
 
@@ -156,7 +156,7 @@ erase_module = record {
   benefit = 1;
   kinds = kind.Values ∷ kind.Tys ∷ kind.Op ∷ [];
   places = 18 ∷ 18 ∷ 18 ∷ [];
-  demands = has_name 2 (codes "builtin.module") ∷ has_parts 2 (record { operands = the 0 ∷ []; entries = []; types = the 1 ∷ [] }) ∷ [];
+  demands = stands (the 0) ∷ stands (the 1) ∷ has_name 2 (codes "builtin.module") ∷ has_parts 2 (record { operands = the 0 ∷ []; entries = []; types = the 1 ∷ [] }) ∷ [];
   root = 2;
   actions = erases (matched (the 2)) ∷ [];
 }
@@ -185,7 +185,7 @@ fuse_given = some_values [] ∷ some_types (i32 ∷ []) ∷ an_op 1 ∷ some_typ
 fuse_match : MatchesBy (with_dead []).rows fuse fuse_given 3
 fuse_match = record {
   assigned = record { kinds_fit = refl; are_things = refl };
-  holds = (refl, ((_, refl, record { operands = refl; entries = tt; types = refl }), ((_, refl), (refl, ((_, refl, record { operands = refl; entries = tt; types = refl }), ((_, refl), (refl, ((_, refl, record { operands = refl; entries = tt; types = refl }), ((_, refl), ((_, refl, refl), tt))))))))));
+  holds = ((_, refl), ((_, refl), (refl, ((_, refl, record { operands = refl; entries = tt; types = refl }), ((_, refl), ((_, refl), (refl, ((_, refl, record { operands = refl; entries = tt; types = refl }), ((_, refl), ((_, refl), (refl, ((_, refl, record { operands = refl; entries = tt; types = refl }), ((_, refl), ((_, refl, refl), tt))))))))))))));
   root = refl;
 }
 
@@ -226,7 +226,7 @@ sums_given v =
 sums_match : MatchesBy (sums (integer false 50 i8)).rows fold (sums_given (integer false 50 i8)) 3
 sums_match = record {
   assigned = record { kinds_fit = refl; are_things = refl };
-  holds = (refl, ((_, refl, record { operands = refl; entries = ((_, refl, refl), tt); types = refl }), ((_, refl), (refl, ((_, refl, record { operands = refl; entries = ((_, refl, refl), tt); types = refl }), ((_, refl), (refl, ((_, refl, record { operands = refl; entries = tt; types = refl }), ((_, refl), ((_, refl, refl), ((_, refl, refl), tt)))))))))));
+  holds = ((_, refl), ((_, refl), ((_, refl), (refl, ((_, refl, record { operands = refl; entries = ((_, refl, refl), tt); types = refl }), ((_, refl), ((_, refl), ((_, refl), (refl, ((_, refl, record { operands = refl; entries = ((_, refl, refl), tt); types = refl }), ((_, refl), ((_, refl), ((_, refl), (refl, ((_, refl, record { operands = refl; entries = tt; types = refl }), ((_, refl, refl), ((_, refl, refl), tt)))))))))))))))));
   root = refl;
 }
 
@@ -286,19 +286,19 @@ abbrev start : Start
 start = start_at (one_a []) (one_a_given []) 1
 
 abbrev progress : ℕ → ℕ → Progress
-progress rows slots = record { now = one_a []; made = an_attr unit ∷ some_types (i32 ∷ i32 ∷ []) ∷ []; rows = rows; slots = slots }
+progress rows slots = record { now = one_a []; made = an_attr unit ∷ an_attr (of_ty i8) ∷ some_types (i32 ∷ i32 ∷ []) ∷ []; rows = rows; slots = slots }
 
--- op<t.n>() {b = made 0, a} -> (made 1)
+-- op<t.n>() {b = .., a = ..} -> (..)
 abbrev entries : List (List ℕ × Part)
-entries = (codes "b", made 0) ∷ (codes "a", matched (attr_literal (of_ty i8))) ∷ []
+entries = (codes "b", made 0) ∷ (codes "a", made 1) ∷ []
 
 abbrev new : Progress → Outcome Progress
-new p = making start p (new_operation (codes "t.n") (record { operands = []; entries = entries; types = made 1 ∷ [] }))
+new p = making start p (new_operation (codes "t.n") (record { operands = []; entries = entries; types = made 2 ∷ [] }))
 
 -- Attributes are put in the order of their names. The new operation stands just before the root.
 in_order : new (progress 3999999 15999998) ≡ Ok (record {
   now = record { rows = top ∷ record (op 2 (codes "t.n") [] (i32 ∷ i32 ∷ [])) { attrs = (codes "a", of_ty i8) ∷ (codes "b", unit) ∷ [] } ∷ op 1 (codes "t.a") [] [] ∷ []; next = 3 };
-  made = an_attr unit ∷ some_types (i32 ∷ i32 ∷ []) ∷ an_op 2 ∷ [];
+  made = an_attr unit ∷ an_attr (of_ty i8) ∷ some_types (i32 ∷ i32 ∷ []) ∷ an_op 2 ∷ [];
   rows = 4000000;
   slots = 16000000;
 })

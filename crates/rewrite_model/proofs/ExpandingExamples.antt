@@ -36,10 +36,14 @@ reshape_reshape = record {
   kinds = kind.Value ∷ kind.Tys ∷ kind.Op ∷ kind.Tys ∷ kind.Op ∷ [];
   places = 54 ∷ 40 ∷ 40 ∷ 80 ∷ 80 ∷ [];
   demands =
-      has_name 2 (codes "t.reshape") ∷ has_parts 2 (record { operands = the 0 ∷ []; entries = []; types = the 1 ∷ [] })
-      ∷ stands (the 2)
-      ∷ has_name 4 (codes "t.reshape") ∷ has_parts 4 (record { operands = only_result 2 ∷ []; entries = []; types = the 3 ∷ [] })
-      ∷ stands (the 4)
+      stands (the 0)
+      ∷ stands (the 1)
+      ∷ has_name 2 (codes "t.reshape")
+      ∷ has_parts 2 (record { operands = the 0 ∷ []; entries = []; types = the 1 ∷ [] })
+      ∷ stands (only_result 2)
+      ∷ stands (the 3)
+      ∷ has_name 4 (codes "t.reshape")
+      ∷ has_parts 4 (record { operands = only_result 2 ∷ []; entries = []; types = the 3 ∷ [] })
       ∷ [];
   root = 4;
   actions =
@@ -68,7 +72,12 @@ low = record {
   benefit = 1;
   kinds = kind.Values ∷ kind.Tys ∷ kind.Op ∷ [];
   places = 21 ∷ 21 ∷ 21 ∷ [];
-  demands = has_name 2 (codes "t.a") ∷ has_parts 2 (record { operands = the 0 ∷ []; entries = []; types = the 1 ∷ [] }) ∷ [];
+  demands =
+      stands (the 0)
+      ∷ stands (the 1)
+      ∷ has_name 2 (codes "t.a")
+      ∷ has_parts 2 (record { operands = the 0 ∷ []; entries = []; types = the 1 ∷ [] })
+      ∷ [];
   root = 2;
   actions = erases (matched (the 2)) ∷ [];
 }
@@ -80,7 +89,12 @@ high = record {
   benefit = 10;
   kinds = kind.Values ∷ kind.Tys ∷ kind.Op ∷ [];
   places = 65 ∷ 65 ∷ 65 ∷ [];
-  demands = has_name 2 (codes "t.a") ∷ has_parts 2 (record { operands = the 0 ∷ []; entries = []; types = the 1 ∷ [] }) ∷ stands (the 2) ∷ [];
+  demands =
+      stands (the 0)
+      ∷ stands (the 1)
+      ∷ has_name 2 (codes "t.a")
+      ∷ has_parts 2 (record { operands = the 0 ∷ []; entries = []; types = the 1 ∷ [] })
+      ∷ [];
   root = 2;
   actions = makes (new_operation (codes "t.b") (record { operands = []; entries = []; types = [] })) ∷ erases (matched (the 2)) ∷ [];
 }
@@ -110,7 +124,12 @@ same = record {
   benefit = 1;
   kinds = kind.Value ∷ kind.Tys ∷ kind.Op ∷ [];
   places = 32 ∷ 24 ∷ 24 ∷ [];
-  demands = has_name 2 (codes "t.sub") ∷ has_parts 2 (record { operands = the 0 ∷ the 0 ∷ []; entries = []; types = the 1 ∷ [] }) ∷ [];
+  demands =
+      stands (the 0)
+      ∷ stands (the 1)
+      ∷ has_name 2 (codes "t.sub")
+      ∷ has_parts 2 (record { operands = the 0 ∷ the 0 ∷ []; entries = []; types = the 1 ∷ [] })
+      ∷ [];
   root = 2;
   actions =
       makes (result_types_of (matched (the 2)))
@@ -133,7 +152,12 @@ self_use = record {
   benefit = 1;
   kinds = kind.Values ∷ kind.Tys ∷ kind.Op ∷ [];
   places = 26 ∷ 26 ∷ 26 ∷ [];
-  demands = has_name 2 (codes "t.a") ∷ has_parts 2 (record { operands = the 0 ∷ []; entries = []; types = the 1 ∷ [] }) ∷ stands (the 2) ∷ [];
+  demands =
+      stands (the 0)
+      ∷ stands (the 1)
+      ∷ has_name 2 (codes "t.a")
+      ∷ has_parts 2 (record { operands = the 0 ∷ []; entries = []; types = the 1 ∷ [] })
+      ∷ [];
   root = 2;
   actions =
       makes (result_of (matched (the 2)) 0)
@@ -159,10 +183,14 @@ swap = record {
   kinds = kind.Values ∷ kind.Tys ∷ kind.Op ∷ kind.Tys ∷ kind.Op ∷ [];
   places = 1 ∷ 1 ∷ 1 ∷ 2 ∷ 2 ∷ [];
   demands =
-      has_name 2 (codes "t.a") ∷ has_parts 2 (record { operands = the 0 ∷ []; entries = []; types = the 1 ∷ [] })
-      ∷ stands (the 2)
-      ∷ has_name 4 (codes "t.b") ∷ has_parts 4 (record { operands = only_result 2 ∷ []; entries = []; types = the 3 ∷ [] })
-      ∷ stands (the 4)
+      stands (the 0)
+      ∷ stands (the 1)
+      ∷ has_name 2 (codes "t.a")
+      ∷ has_parts 2 (record { operands = the 0 ∷ []; entries = []; types = the 1 ∷ [] })
+      ∷ stands (only_result 2)
+      ∷ stands (the 3)
+      ∷ has_name 4 (codes "t.b")
+      ∷ has_parts 4 (record { operands = only_result 2 ∷ []; entries = []; types = the 3 ∷ [] })
       ∷ [];
   root = 4;
   actions =
@@ -189,12 +217,19 @@ two = record {
   kinds = kind.Values ∷ kind.Tys ∷ kind.Op ∷ kind.Values ∷ kind.Tys ∷ kind.Op ∷ kind.Tys ∷ kind.Op ∷ [];
   places = 1 ∷ 1 ∷ 1 ∷ 2 ∷ 2 ∷ 2 ∷ 3 ∷ 3 ∷ [];
   demands =
-      has_name 2 (codes "t.a") ∷ has_parts 2 (record { operands = the 0 ∷ []; entries = []; types = the 1 ∷ [] })
-      ∷ stands (the 2)
-      ∷ has_name 5 (codes "t.a") ∷ has_parts 5 (record { operands = the 3 ∷ []; entries = []; types = the 4 ∷ [] })
-      ∷ stands (the 5)
-      ∷ has_name 7 (codes "t.b") ∷ has_parts 7 (record { operands = only_result 2 ∷ only_result 5 ∷ []; entries = []; types = the 6 ∷ [] })
-      ∷ stands (the 7)
+      stands (the 0)
+      ∷ stands (the 1)
+      ∷ has_name 2 (codes "t.a")
+      ∷ has_parts 2 (record { operands = the 0 ∷ []; entries = []; types = the 1 ∷ [] })
+      ∷ stands (the 3)
+      ∷ stands (the 4)
+      ∷ has_name 5 (codes "t.a")
+      ∷ has_parts 5 (record { operands = the 3 ∷ []; entries = []; types = the 4 ∷ [] })
+      ∷ stands (only_result 2)
+      ∷ stands (only_result 5)
+      ∷ stands (the 6)
+      ∷ has_name 7 (codes "t.b")
+      ∷ has_parts 7 (record { operands = only_result 2 ∷ only_result 5 ∷ []; entries = []; types = the 6 ∷ [] })
       ∷ [];
   root = 7;
   actions = erases (matched (the 7)) ∷ erases (matched (the 2)) ∷ erases (matched (the 5)) ∷ [];
@@ -228,12 +263,19 @@ fuse = record {
   kinds = kind.Values ∷ kind.Tys ∷ kind.Op ∷ kind.Tys ∷ kind.Op ∷ kind.Tys ∷ kind.Op ∷ [];
   places = 1 ∷ 1 ∷ 1 ∷ 2 ∷ 2 ∷ 3 ∷ 3 ∷ [];
   demands =
-      has_name 2 (codes "t.a") ∷ has_parts 2 (record { operands = the 0 ∷ []; entries = []; types = the 1 ∷ [] })
-      ∷ stands (the 2)
-      ∷ has_name 4 (codes "t.b") ∷ has_parts 4 (record { operands = only_result 2 ∷ []; entries = []; types = the 3 ∷ [] })
-      ∷ stands (the 4)
-      ∷ has_name 6 (codes "t.c") ∷ has_parts 6 (record { operands = only_result 4 ∷ []; entries = []; types = the 5 ∷ [] })
-      ∷ stands (the 6)
+      stands (the 0)
+      ∷ stands (the 1)
+      ∷ has_name 2 (codes "t.a")
+      ∷ has_parts 2 (record { operands = the 0 ∷ []; entries = []; types = the 1 ∷ [] })
+      ∷ stands (only_result 2)
+      ∷ stands (the 3)
+      ∷ has_name 4 (codes "t.b")
+      ∷ has_parts 4 (record { operands = only_result 2 ∷ []; entries = []; types = the 3 ∷ [] })
+      ∷ stands (only_result 4)
+      ∷ stands (the 5)
+      ∷ has_name 6 (codes "t.c")
+      ∷ has_parts 6 (record { operands = only_result 4 ∷ []; entries = []; types = the 5 ∷ [] })
+      ∷ stands (result 2 0)
       ∷ calls HasOneUse (result 2 0 ∷ [])
       ∷ [];
   root = 6;
@@ -251,7 +293,12 @@ drop_dead = record {
   benefit = 1;
   kinds = kind.Values ∷ kind.Tys ∷ kind.Op ∷ [];
   places = 9 ∷ 9 ∷ 9 ∷ [];
-  demands = has_name 2 (codes "t.dead") ∷ has_parts 2 (record { operands = the 0 ∷ []; entries = []; types = the 1 ∷ [] }) ∷ [];
+  demands =
+      stands (the 0)
+      ∷ stands (the 1)
+      ∷ has_name 2 (codes "t.dead")
+      ∷ has_parts 2 (record { operands = the 0 ∷ []; entries = []; types = the 1 ∷ [] })
+      ∷ [];
   root = 2;
   actions = erases (matched (the 2)) ∷ [];
 }
@@ -295,12 +342,21 @@ fold = record {
   kinds = kind.Values ∷ kind.Attr ∷ kind.Tys ∷ kind.Op ∷ kind.Values ∷ kind.Attr ∷ kind.Tys ∷ kind.Op ∷ kind.Tys ∷ kind.Op ∷ [];
   places = 1 ∷ 2 ∷ 1 ∷ 1 ∷ 3 ∷ 4 ∷ 3 ∷ 3 ∷ 5 ∷ 5 ∷ [];
   demands =
-      has_name 3 (codes "t.const") ∷ has_parts 3 (record { operands = the 0 ∷ []; entries = (codes "value", the 1) ∷ []; types = the 2 ∷ [] })
-      ∷ stands (the 3)
-      ∷ has_name 7 (codes "t.const") ∷ has_parts 7 (record { operands = the 4 ∷ []; entries = (codes "value", the 5) ∷ []; types = the 6 ∷ [] })
-      ∷ stands (the 7)
-      ∷ has_name 9 (codes "t.add") ∷ has_parts 9 (record { operands = only_result 3 ∷ only_result 7 ∷ []; entries = []; types = the 8 ∷ [] })
-      ∷ stands (the 9)
+      stands (the 0)
+      ∷ stands (the 1)
+      ∷ stands (the 2)
+      ∷ has_name 3 (codes "t.const")
+      ∷ has_parts 3 (record { operands = the 0 ∷ []; entries = (codes "value", the 1) ∷ []; types = the 2 ∷ [] })
+      ∷ stands (the 4)
+      ∷ stands (the 5)
+      ∷ stands (the 6)
+      ∷ has_name 7 (codes "t.const")
+      ∷ has_parts 7 (record { operands = the 4 ∷ []; entries = (codes "value", the 5) ∷ []; types = the 6 ∷ [] })
+      ∷ stands (only_result 3)
+      ∷ stands (only_result 7)
+      ∷ stands (the 8)
+      ∷ has_name 9 (codes "t.add")
+      ∷ has_parts 9 (record { operands = only_result 3 ∷ only_result 7 ∷ []; entries = []; types = the 8 ∷ [] })
       ∷ calls IsInt (the 1 ∷ [])
       ∷ calls IsInt (the 5 ∷ [])
       ∷ [];
@@ -377,20 +433,24 @@ bodies = record {
   kinds = kind.Op ∷ kind.Ty ∷ kind.Value ∷ kind.Op ∷ [];
   places = 50 ∷ 80 ∷ 70 ∷ 60 ∷ [];
   demands =
-      has_name 0 (codes "t.a")
-      ∷ stands (the 0)
+      stands (the 0)
+      ∷ has_name 0 (codes "t.a")
       ∷ stands (result 0 0)
       ∷ calls NoRegions (the 0 ∷ [])
+      ∷ stands (only_result 0)
+      ∷ stands (the 1)
+      ∷ stands (the 2)
       ∷ has_type 2 (the 1)
-      ∷ has_name 3 (codes "t.b") ∷ has_parts 3 (record { operands = only_result 0 ∷ the 2 ∷ []; entries = []; types = the 1 ∷ [] })
-      ∷ stands (the 3)
+      ∷ has_name 3 (codes "t.b")
+      ∷ has_parts 3 (record { operands = only_result 0 ∷ the 2 ∷ []; entries = []; types = the 1 ∷ [] })
       ∷ [];
   root = 3;
   actions =
-      makes (new_operation (codes "t.w") (record { operands = matched (the 2) ∷ []; entries = (codes "flag", matched (attr_literal unit)) ∷ []; types = [] }))
-      ∷ makes (result_of (made 0) 0)
+      makes (attr_literal unit)
+      ∷ makes (new_operation (codes "t.w") (record { operands = matched (the 2) ∷ []; entries = (codes "flag", made 0) ∷ []; types = [] }))
+      ∷ makes (result_of (made 1) 0)
       ∷ makes (results_of (matched (the 0)))
-      ∷ replaces (matched (the 3)) (made 1 ∷ made 2 ∷ [])
+      ∷ replaces (matched (the 3)) (made 2 ∷ made 3 ∷ [])
       ∷ [];
 }
 

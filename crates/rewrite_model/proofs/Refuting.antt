@@ -8,7 +8,7 @@ use Rattle.std.proofs.lemmas.Slice.Eq.{bytes_eq-Decides}
 use Rattle.mlir_tree.specs.declared.row.Row.{Row}
 use Rattle.native_set.specs.declared.native.Constraint.{Constraint}
 use Rattle.native_set.specs.declared.native.Constraint.TheVariants.{HasOneUse}
-use Rattle.rewrite_model.specs.Pattern.{Demand, has_name, has_parts, has_type, stands, calls, Pattern}
+use Rattle.rewrite_model.specs.Pattern.{Demand, is_attr, is_type, has_name, has_parts, has_type, stands, calls, Pattern}
 use Rattle.rewrite_model.specs.Determined.{IsDetermined}
 use Rattle.rewrite_model.specs.Things.{Thing, a_value, each, denoted}
 use Rattle.rewrite_model.specs.Holding.{row_given, uses, NativeHolds, Holds}
@@ -27,6 +27,8 @@ native_passes rows c ts = true
 abbrev passes : List Row → List Thing → Demand → Bool
 passes rows a (has_name x n) = option_map_or (λ r. bytes_eq r.name n) (row_given rows a x) false
 passes rows a (has_parts x o) = true
+passes rows a (is_attr x v) = true
+passes rows a (is_type x v) = true
 passes rows a (has_type x e) = true
 passes rows a (stands e) = true
 passes rows a (calls c es) = native_passes rows c (each (denoted rows a) es)
@@ -54,6 +56,8 @@ native_passing rows c ts h = refl
 passing : (rows : List Row) (a : List Thing) (d : Demand) → Holds rows a d → passes rows a d ≡ true
 passing rows a (has_name x n) h = named n (row_given rows a x) h
 passing rows a (has_parts x o) h = refl
+passing rows a (is_attr x v) h = refl
+passing rows a (is_type x v) h = refl
 passing rows a (has_type x e) h = refl
 passing rows a (stands e) h = refl
 passing rows a (calls c es) h = ap (native_passes rows c) h.1 ∙ native_passing rows c h.0 h.2

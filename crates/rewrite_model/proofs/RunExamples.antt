@@ -32,10 +32,10 @@ abbrev root_told : IsTold 4
 root_told = given_one 4 (inl refl)
 
 abbrev outer_stands : IsIn (has_parts 4 outer) reshape_reshape.demands
-outer_stands = inr (inr (inr (inr (inl refl))))
+outer_stands = inr (inr (inr (inr (inr (inr (inr (inl refl)))))))
 
 abbrev inner_stands : IsIn (has_parts 2 inner) reshape_reshape.demands
-inner_stands = inr (inl refl)
+inner_stands = inr (inr (inr (inl refl)))
 
 abbrev inner_told : IsTold 2
 inner_told = part_of 4 2 outer (only_result 2) outer_stands root_told (inl (inl refl)) refl
@@ -49,7 +49,7 @@ each_told (suc (suc (suc (suc zero)))) l = root_told
 each_told (suc (suc (suc (suc (suc x))))) l = absurd (omega (arith, l))
 
 abbrev is_determined : IsDetermined reshape_reshape
-is_determined = record { each = each_told; ranges = (tt, ((omega arith, omega arith), (tt, (tt, ((omega arith, omega arith), (tt, tt)))))) }
+is_determined = record { each = each_told; ranges = (tt, (tt, (tt, ((omega arith, omega arith), (tt, (tt, (tt, ((omega arith, omega arith), tt)))))))) }
 
 -- ---- the run
 

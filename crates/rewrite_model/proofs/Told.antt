@@ -13,8 +13,8 @@ use Rattle.mlir_tree.specs.Module.{row_of}
 use Rattle.mlir_tree.specs.Edits.{attribute_of}
 use Rattle.native_set.specs.declared.native.Kind.{Kind}
 use Rattle.native_set.specs.declared.native.Kind.TheVariants as kind
-use Rattle.rewrite_model.specs.Pattern.{Parts, Expr, the, attr_literal, type_literal, result, only_result, Demand, has_parts, has_type, Pattern}
-use Rattle.rewrite_model.specs.Determined.{IsIn, StandsIn, values_of, IsPart, Determined, given_one, part_of, type_of, kind_in, is_range_kind, is_range, ranges, HasOneRange, KeepsOneRange}
+use Rattle.rewrite_model.specs.Pattern.{Parts, Expr, the, result, only_result, Demand, is_attr, is_type, has_parts, has_type, Pattern}
+use Rattle.rewrite_model.specs.Determined.{IsIn, StandsIn, values_of, IsPart, Determined, given_one, attr_told, type_told, part_of, type_of, kind_in, is_range_kind, is_range, ranges, HasOneRange, KeepsOneRange}
 use Rattle.rewrite_model.specs.Things.{Thing, an_op, a_value, some_values, an_attr, a_type, some_types, kind_of, row_at, result_at, only_result_at, values_in, types_in, joined, concatenated, denoted, values_denoted, types_denoted}
 use Rattle.rewrite_model.specs.Holding.{HasEntry, HasParts, thing_type, Holds}
 use Rattle.rewrite_model.specs.Matching.{MatchesBy}
@@ -72,8 +72,6 @@ module _ (rows : List Row) (ks : List Kind) (a : List Thing) (fits : map kind_of
 
   pub kind_is : (e : Expr) (t : Thing) → denoted rows a e ≡ Some t → kind_in ks e ≡ Some (kind_of t)
   kind_is (the x) t d = ap (λ l. slice_get l x) (sym fits) ∙ (slice_get-map kind_of a x ∙ ap (option_map kind_of) d)
-  kind_is (attr_literal v) t d = ap (λ o. Some (kind_of (some_or t o))) d
-  kind_is (type_literal v) t d = ap (λ o. Some (kind_of (some_or t o))) d
   kind_is (result x k) t d = ap Some (sym (value_result k (option_and_then (row_at rows) (slice_get a x)) t d))
   kind_is (only_result x) t d = ap Some (sym (value_only (option_and_then (row_at rows) (slice_get a x)) t d))
 
@@ -172,8 +170,6 @@ holder t = None
 
 abbrev pub variable_in : Expr → Thing → Option Thing
 variable_in (the x) t = Some t
-variable_in (attr_literal v) t = None
-variable_in (type_literal v) t = None
 variable_in (result x k) t = holder t
 variable_in (only_result x) t = holder t
 
@@ -215,8 +211,6 @@ module _ (rows : List Row) where
 
   pub variable_right : (a : List Thing) (e : Expr) (t : Thing) (y : ℕ) → denoted rows a e ≡ Some t → StandsIn y e → slice_get a y ≡ variable_in e t
   variable_right a (the x) t y d s = ap (slice_get a) s ∙ d
-  variable_right a (attr_literal v) t y d s = elim s [ ]
-  variable_right a (type_literal v) t y d s = elim s [ ]
   variable_right a (result x k) t y d s = ap (slice_get a) s ∙ given_of a x (result_at k) t (λ u. holds_result k u t) d
   variable_right a (only_result x) t y d s = ap (slice_get a) s ∙ given_of a x only_result_at t (λ u. holds_only u t) d
 
@@ -251,6 +245,8 @@ picked_part rows ks a fits r e o (inr (inr i)) one d =
 module _ (rows : List Row) (ks : List Kind) (demands : List Demand) (root : ℕ) (id : ℕ) where
   abbrev pub told : (x : ℕ) → Determined (root ∷ []) demands x → Option Thing
   told _ (given_one x i) = Some (an_op id)
+  told _ (attr_told x v i) = Some (an_attr v)
+  told _ (type_told x t i) = Some (a_type t)
   told _ (part_of x y o e d t i s) = option_and_then (variable_in e) (option_and_then (λ r. pick_part ks r e o i) (option_and_then (row_at rows) (told x t)))
   told _ (type_of x y e d t s) = option_and_then (variable_in e) (option_and_then (thing_type rows) (told x t))
 
@@ -289,6 +285,8 @@ module _ (rows : List Row) (p : Pattern) (id : ℕ) (a : List Thing) (one : AllB
   pub told_right : (x : ℕ) (d : Determined (p.root ∷ []) p.demands x) → slice_get a x ≡ told rows p.kinds p.demands p.root id x d
   told_right _ (given_one x (inl i)) = ap (slice_get a) i ∙ m.root
   told_right _ (given_one x (inr i)) = elim i [ ]
+  told_right _ (attr_told x v i) = holding (Holds rows a) (is_attr x v) p.demands i m.holds
+  told_right _ (type_told x t i) = holding (Holds rows a) (is_type x t) p.demands i m.holds
   told_right _ (part_of x y o e d t i s) =
       let h : Holds rows a (has_parts x o) = holding (Holds rows a) (has_parts x o) p.demands d m.holds in
       let u : HasOneRange p.kinds o.operands × HasOneRange p.kinds o.types = holding (KeepsOneRange p.kinds) (has_parts x o) p.demands d one in

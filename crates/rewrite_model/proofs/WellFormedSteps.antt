@@ -14,8 +14,8 @@ use Rattle.mlir_tree.specs.Edits.{substituted, removed}
 use Rattle.mlir_resolve.specs.BadUses.{bad_use}
 use Rattle.rewrite_model.specs.declared.run.Break.TheVariants.{Gone, Count, Types, Top, NativeRefused}
 use Rattle.rewrite_model.specs.declared.run.BoundKind.TheVariants.{RowLimit, SlotLimit}
-use Rattle.rewrite_model.specs.Pattern.{Parts, Part, Making, new_operation, result_of, only_result_of, results_of, result_types_of, native, Action, makes, replaces, erases, Pattern}
-use Rattle.rewrite_model.specs.Things.{Thing, result_at, only_result_at, each}
+use Rattle.rewrite_model.specs.Pattern.{Parts, Part, Making, attr_literal, type_literal, new_operation, result_of, only_result_of, results_of, result_types_of, native, Action, makes, replaces, erases, Pattern}
+use Rattle.rewrite_model.specs.Things.{Thing, an_attr, a_type, result_at, only_result_at, each}
 use Rattle.rewrite_model.specs.Making.{Stop, breaks, bound, Start, Progress, Outcome, ◌>>=◌, or_break, or_stop, need_or, need, slots_of, results, are_live, have_types, native_result, part, live_row, values_at, types_at, entries_at, new_row, need_room, giving, put_in, create, making, edited, replace, erase, act, act_all}
 use Rattle.rewrite_model.specs.Step.{begun, start_at, rewritten, accepted, step}
 use Rattle.rewrite_model.specs.Running.{converges, is_bounded, is_stopped, goes_on}
@@ -96,6 +96,8 @@ module _ (start : Start) where
 
   made : (p : Progress) (x : Making) → IsLaidOut p.now → KeptBy p (making start p x)
   made p (new_operation name o) l q e = created p name o l q e
+  made p (attr_literal v) l q e = gives p (an_attr v) l q e
+  made p (type_literal t) l q e = gives p (a_type t) l q e
   made p (result_of x k) l q e =
       let a = first_of (live_row start p x) _ q e in
       let b = first_of (or_break Count (result_at k a.0)) _ q a.2 in

@@ -1,20 +1,19 @@
--- Which variables and operation expressions are determined, so that no more than one choice fits them.
+-- Which variables and operation expressions are determined, so that at most one choice fits them.
 use Rattle.std.specs.Prelude.{◌≡◌, ◌⊎◌, ℕ, ◌+◌, ◌<◌, ◌≤◌, Bool, true, false, if◌then◌else◌, List, [], ◌∷◌, map, length, slice_get, Option, Some, ⊤}
 use Rattle.std.specs.List.{AllByRecursion, range_with_len}
+use Rattle.mlir_tree.specs.Tree.{Ty, Attr}
 use Rattle.native_set.specs.declared.native.Kind.{Kind}
 use Rattle.native_set.specs.declared.native.Kind.TheVariants as kind
-use Rattle.rewrite_model.specs.Pattern.{Parts, Expr, the, attr_literal, type_literal, result, only_result, Demand, has_parts, has_type, Pattern}
+use Rattle.rewrite_model.specs.Pattern.{Parts, Expr, the, result, only_result, Demand, is_attr, is_type, has_parts, has_type, Pattern}
 use Rattle.rewrite_model.specs.MatchPart.{Scene}
 
 abbrev pub IsIn : {X : Type 0} → X → List X → Type 0
 IsIn x [] = ⊥
 IsIn x (y ∷ ys) = (x ≡ y) ⊎ IsIn x ys
 
--- the variable or operation expression in an expression
+-- what has a number in an expression
 abbrev pub StandsIn : ℕ → Expr → Type 0
 StandsIn x (the y) = x ≡ y
-StandsIn x (attr_literal v) = ⊥
-StandsIn x (type_literal t) = ⊥
 StandsIn x (result y k) = x ≡ y
 StandsIn x (only_result y) = x ≡ y
 
@@ -25,10 +24,12 @@ values_of es = map (λ e. e.1) es
 abbrev pub IsPart : Expr → Parts Expr → Type 0
 IsPart e o = IsIn e o.operands ⊎ (IsIn e (values_of o.entries) ⊎ IsIn e o.types)
 
--- What is given is determined: the root, or the parameters of a constraint. With an operation its operands, attributes
+-- What is given is determined: the root, or the parameters of a constraint. So are literals. With an operation its operands, attributes
 -- and types are, and with those the operations whose results they are. With a variable its written type is.
 pub data Determined (given : List ℕ) (demands : List Demand) : ℕ → Type 0 where
   given_one : (x : ℕ) → IsIn x given → Determined given demands x
+  attr_told : (x : ℕ) (v : Attr) → IsIn (is_attr x v) demands → Determined given demands x
+  type_told : (x : ℕ) (t : Ty) → IsIn (is_type x t) demands → Determined given demands x
   part_of : (x y : ℕ) (o : Parts Expr) (e : Expr) → IsIn (has_parts x o) demands → Determined given demands x → IsPart e o → StandsIn y e → Determined given demands y
   type_of : (x y : ℕ) (e : Expr) → IsIn (has_type x e) demands → Determined given demands x → StandsIn y e → Determined given demands y
 
@@ -36,8 +37,6 @@ pub data Determined (given : List ℕ) (demands : List Demand) : ℕ → Type 0 
 
 abbrev pub kind_in : List Kind → Expr → Option Kind
 kind_in ks (the x) = slice_get ks x
-kind_in ks (attr_literal v) = Some kind.Attr
-kind_in ks (type_literal t) = Some kind.Ty
 kind_in ks (result x k) = Some kind.Value
 kind_in ks (only_result x) = Some kind.Value
 
@@ -64,7 +63,7 @@ KeepsOneRange ks d = ⊤
 
 -- ---- patterns
 
--- Each variable and operation expression is determined, and no list of operands or types has two ranges.
+-- Whatever has a number is determined, and no list of operands or types has two ranges.
 pub record IsDetermined (p : Pattern) : Type 0 where
   pub each : (x : ℕ) → x < length p.kinds → Determined (p.root ∷ []) p.demands x
   pub ranges : AllByRecursion (KeepsOneRange p.kinds) p.demands

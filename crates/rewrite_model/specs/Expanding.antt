@@ -22,10 +22,10 @@ use Rattle.native_set.specs.declared.native.Kind.TheVariants as kind
 use Rattle.native_set.specs.declared.native.Constraint.{Constraint}
 use Rattle.native_set.specs.declared.native.Rewrite.{Rewrite}
 use Rattle.native_set.specs.Table.{constraint_of, rewrite_of}
-use Rattle.rewrite_model.specs.Pattern.{Expr, the, stands, calls, Part, matched, native, erases, Pattern}
+use Rattle.rewrite_model.specs.Pattern.{Expr, the, calls, Part, matched, native, erases, Pattern}
 use Rattle.rewrite_model.specs.Doing.{Doing, ◌>>=◌, ◌>>◌, pure, for_each}
 use Rattle.rewrite_model.specs.Names.{Written, of_kind, ref_kind, Meant, Names, named_together}
-use Rattle.rewrite_model.specs.MatchPart.{Scene, empty, Constrains, meant, new_number, ask, see_name, number_of, call_refs, kind_of_refs, expression, plain, statement}
+use Rattle.rewrite_model.specs.MatchPart.{Scene, empty, Constrains, meant, new_variable, ask, see_name, number_of, call_refs, kind_of_refs, expression, plain, statement}
 use Rattle.rewrite_model.specs.RewritePart.{Script, Rewrites, no_part, act, make, evaluated, replace_by, all_done}
 
 abbrev pub param_names : List Param → List (List ℕ)
@@ -53,13 +53,11 @@ abbrev pub ask_native : Option Constraint → List (Meant Expr) → Doing Scene 
 ask_native None xs = pure tt
 ask_native (Some c) xs = ask (calls c (map (λ x. x.is) xs))
 
--- A constraint without a body is a native one. Else its arguments have to denote something, and its body stands for the
--- call, with the parameters as names of the arguments.
+-- A constraint without a body is a native one. Else its body stands for the call, with the parameters as names of the
+-- arguments.
 abbrev pub call_constraint : (List ℕ → Constrains) → CallDecl → Body → List (Meant Expr) → Doing Scene (Unit {0})
 call_constraint earlier c body.Absent xs = ask_native (constraint_of c.name.text (map (λ x. x.kind) xs)) xs
-call_constraint earlier c b xs = do
-  for_each (λ x. ask (stands x.is)) xs
-  within (named_together (param_names c.params) xs) (call_params earlier c.params xs >> body_asks earlier b)
+call_constraint earlier c b xs = within (named_together (param_names c.params) xs) (call_params earlier c.params xs >> body_asks earlier b)
 
 abbrev pub first_param_kind : (List ℕ → Constrains) → List Param → Written
 first_param_kind earlier [] = of_kind kind.Value
@@ -201,7 +199,7 @@ patterns file = patterns_from [] file.decls
 abbrev pub param_variables : (List ℕ → Constrains) → List Param → Doing Scene (List (Meant Expr))
 param_variables earlier [] = pure []
 param_variables earlier (p ∷ ps) = do
-  x ← new_number p.name.at (kind_of_refs earlier p.refs).kind
+  x ← new_variable p.name.at (kind_of_refs earlier p.refs).kind
   see_name p.name.text x
   xs ← param_variables earlier ps
   pure (x ∷ xs)

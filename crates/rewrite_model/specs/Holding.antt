@@ -12,7 +12,7 @@ use Rattle.mlir_tree.specs.Edits.{attribute_of, val_eq}
 use Rattle.native_set.specs.declared.native.Constraint.{Constraint}
 use Rattle.native_set.specs.declared.native.Constraint.TheVariants.{HasOneUse, HasNoUse, IsInt, IsZero, SameBlock, NoRegions}
 use Rattle.native_set.specs.Arithmetic.{is_int, is_zero}
-use Rattle.rewrite_model.specs.Pattern.{Parts, Expr, Demand, has_name, has_parts, has_type, stands, calls}
+use Rattle.rewrite_model.specs.Pattern.{Parts, Expr, Demand, stands, is_attr, is_type, has_name, has_parts, has_type, calls}
 use Rattle.rewrite_model.specs.Things.{Thing, an_op, a_value, some_values, an_attr, a_type, some_types, row_at, type_of, each, concatenated, denoted, values_denoted, types_denoted}
 
 -- ---- operations
@@ -27,7 +27,7 @@ pub record HasParts (rows : List Row) (a : List Thing) (o : Parts Expr) (r : Row
   pub entries : AllByRecursion (HasEntry rows a r) o.entries
   pub types : concatenated (types_denoted rows a) o.types ≡ Some r.results
 
--- the row that a variable or operation expression was given
+-- the row that a number was given
 abbrev pub row_given : List Row → List Thing → ℕ → Option Row
 row_given rows a x = option_and_then (row_at rows) (slice_get a x)
 
@@ -67,8 +67,10 @@ NativeHolds rows c ts = ⊥
 
 -- What is asked for is met, and the expressions in it denote something.
 abbrev pub Holds : List Row → List Thing → Demand → Type 0
+Holds rows a (stands e) = (t : Thing) × (denoted rows a e ≡ Some t)
+Holds rows a (is_attr x v) = slice_get a x ≡ Some (an_attr v)
+Holds rows a (is_type x t) = slice_get a x ≡ Some (a_type t)
 Holds rows a (has_name x n) = option_map (λ r. r.name) (row_given rows a x) ≡ Some n
 Holds rows a (has_parts x o) = (r : Row) × (row_given rows a x ≡ Some r) × HasParts rows a o r
 Holds rows a (has_type x e) = (t : Thing) × (denoted rows a e ≡ Some t) × (option_and_then (thing_type rows) (slice_get a x) ≡ Some t)
-Holds rows a (stands e) = (t : Thing) × (denoted rows a e ≡ Some t)
 Holds rows a (calls c es) = (ts : List Thing) × (each (denoted rows a) es ≡ Some ts) × NativeHolds rows c ts

@@ -19,8 +19,8 @@ use Rattle.rewrite_model.specs.declared.run.Break.{Break}
 use Rattle.rewrite_model.specs.declared.run.Break.TheVariants.{Gone, Count, Types, Top, NativeRefused}
 use Rattle.rewrite_model.specs.declared.run.BoundKind.{BoundKind}
 use Rattle.rewrite_model.specs.declared.run.BoundKind.TheVariants.{RowLimit, SlotLimit}
-use Rattle.rewrite_model.specs.Pattern.{Parts, Part, matched, made, Making, new_operation, result_of, only_result_of, results_of, result_types_of, native, Action, makes, replaces, erases}
-use Rattle.rewrite_model.specs.Things.{Thing, an_op, some_values, an_attr, some_types, row_at, result_at, only_result_at, type_of, values_in, types_in, attr_in, concatenated, each, denoted}
+use Rattle.rewrite_model.specs.Pattern.{Parts, Part, matched, made, Making, attr_literal, type_literal, new_operation, result_of, only_result_of, results_of, result_types_of, native, Action, makes, replaces, erases}
+use Rattle.rewrite_model.specs.Things.{Thing, an_op, some_values, an_attr, a_type, some_types, row_at, result_at, only_result_at, type_of, values_in, types_in, attr_in, concatenated, each, denoted}
 
 -- What ends a step before its time.
 pub data Stop : Type 0 where
@@ -172,6 +172,8 @@ module _ (start : Start) where
 
   abbrev pub making : Progress → Making → Outcome Progress
   making p (new_operation name o) = create p name o
+  making p (attr_literal v) = Ok (giving p (an_attr v))
+  making p (type_literal t) = Ok (giving p (a_type t))
   making p (result_of x k) = do
     r ← live_row p x
     t ← or_break Count (result_at k r)

@@ -1,6 +1,6 @@
 -- The match of a pattern, and bodies of constraints, as demands (PDLL document, "Variables", "Operation Expression",
 -- "Constraints"). What is written here of files that aren't accepted means nothing.
-use Rattle.std.specs.Prelude.{ℕ, List, [], ◌∷◌, ◌++◌, map, length, Option, Some, None, unwrap_or, Result, Ok, Err}
+use Rattle.std.specs.Prelude.{ℕ, List, [], ◌∷◌, ◌++◌, map, length, Option, Some, None, Result, Ok, Err}
 use Rattle.mlir_tree.specs.Tree.{Ty, index, Attr, unit}
 use Rattle.mlir_parse.specs.declared.fault.ModFault.{ModFault}
 use Rattle.mlir_parse.specs.Attributes.{attr_of}
@@ -9,7 +9,7 @@ use Rattle.pdll_syntax.specs.ExprTree.{Expr as Syntax, expr, ExprForm, name_expr
 use Rattle.pdll_syntax.specs.StmtTree.{Stmt, stmt, let_stmt, plain_stmt}
 use Rattle.native_set.specs.declared.native.Kind.{Kind}
 use Rattle.native_set.specs.declared.native.Kind.TheVariants as kind
-use Rattle.rewrite_model.specs.Pattern.{Expr, the, attr_literal, type_literal, result, only_result, Demand, has_name, has_parts, has_type, stands}
+use Rattle.rewrite_model.specs.Pattern.{Expr, the, result, only_result, Demand, stands, is_attr, is_type, has_name, has_parts, has_type}
 use Rattle.rewrite_model.specs.Doing.{Doing, ◌>>=◌, ◌>>◌, pure, change, for_each}
 use Rattle.rewrite_model.specs.Names.{Written, ref_name, written_kind, Meant, Names, meaning}
 
@@ -33,7 +33,7 @@ pub record Constrains : Type 0 where
 abbrev pub meant : {E : Type 0} → Kind → E → Meant E
 meant k x = record { kind = k; is = x }
 
--- the next number, for a variable or operation expression of this kind at this place
+-- the next number, for what has this kind and stands at this place
 abbrev pub new_number : ℕ → Kind → Doing Scene (Meant Expr)
 new_number at k = λ s. (meant k (the (length s.kinds)), record s { kinds = s.kinds ++ k ∷ []; places = s.places ++ at ∷ [] })
 
@@ -51,12 +51,24 @@ abbrev pub number_of : Expr → ℕ
 number_of (the x) = x
 number_of e = 0
 
+-- the expression has to denote something
+abbrev pub mention : Kind → Expr → Doing Scene (Meant Expr)
+mention k e = do
+  ask (stands e)
+  pure (meant k e)
+
+-- a variable, a `_` or a left-out list
+abbrev pub new_variable : ℕ → Kind → Doing Scene (Meant Expr)
+new_variable at k = do
+  x ← new_number at k
+  mention k x.is
+
 -- an operation among operands is its only result
-abbrev pub as_operand : Meant Expr → Expr
-as_operand x = by_kind x.kind x.is where
-  by_kind : Kind → Expr → Expr
-  by_kind kind.Op e = only_result (number_of e)
-  by_kind k e = e
+abbrev pub as_operand : Meant Expr → Doing Scene (Meant Expr)
+as_operand x = by_kind x.kind x where
+  by_kind : Kind → Meant Expr → Doing Scene (Meant Expr)
+  by_kind kind.Op e = mention kind.Value (only_result (number_of e.is))
+  by_kind k e = pure e
 
 abbrev pub literal_attr : Result Attr ModFault → Attr
 literal_attr (Ok a) = a
@@ -65,6 +77,18 @@ literal_attr (Err e) = unit
 abbrev pub literal_type : Result Ty ModFault → Ty
 literal_type (Ok t) = t
 literal_type (Err e) = index
+
+abbrev pub a_literal_attr : ℕ → Attr → Doing Scene (Meant Expr)
+a_literal_attr at v = do
+  x ← new_number at kind.Attr
+  ask (is_attr (number_of x.is) v)
+  pure x
+
+abbrev pub a_literal_type : ℕ → Ty → Doing Scene (Meant Expr)
+a_literal_type at t = do
+  x ← new_number at kind.Ty
+  ask (is_type (number_of x.is) t)
+  pure x
 
 -- `Op<name>` asks for the name
 abbrev pub ask_name : Expr → Option (List ℕ) → Doing Scene (Unit {0})
@@ -91,7 +115,7 @@ module _ (constraint : List ℕ → Constrains) where
   -- a variable without a value, at this place, whose written type is this
   abbrev pub variable : ℕ → List Ref → Option Expr → Doing Scene (Meant Expr)
   variable at rs type = do
-    x ← new_number at (kind_of_refs rs).kind
+    x ← new_variable at (kind_of_refs rs).kind
     ask_name x.is (kind_of_refs rs).name
     ask_type x.is type
     call_refs rs x
@@ -109,12 +133,12 @@ module _ (constraint : List ℕ → Constrains) where
       x ← variable at (ref_list rs) t
       see_name n x
       pure x
-    form_at (attr_expr l) at = pure (meant kind.Attr (attr_literal (literal_attr (attr_of l.bytes))))
-    form_at (type_expr l) at = pure (meant kind.Ty (type_literal (literal_type (type_of l.bytes))))
+    form_at (attr_expr l) at = a_literal_attr at (literal_attr (attr_of l.bytes))
+    form_at (type_expr l) at = a_literal_type at (literal_type (type_of l.bytes))
     form_at (op_expr o) at = operation_at o at
     form_at (member_expr e k) at = do
       x ← expression e
-      pure (meant kind.Value (result (number_of x.is) k))
+      mention kind.Value (result (number_of x.is) k)
 
     -- operands, attributes and types come before the operation
     pub operation_at : OpExpr → ℕ → Doing Scene (Meant Expr)
@@ -130,16 +154,22 @@ module _ (constraint : List ℕ → Constrains) where
     -- left-out operands are `_: ValueRange`
     pub operands_at : MaybeExprs → ℕ → Doing Scene (List Expr)
     operands_at left_out at = do
-      x ← new_number at kind.Values
+      x ← new_variable at kind.Values
       pure (x.is ∷ [])
-    operands_at (written es) at = do
-      xs ← expressions es
-      pure (map as_operand xs)
+    operands_at (written es) at = operand_list es
+
+    pub operand_list : Exprs → Doing Scene (List Expr)
+    operand_list no_exprs = pure []
+    operand_list (expr_then e es) = do
+      x ← expression e
+      y ← as_operand x
+      ys ← operand_list es
+      pure (y.is ∷ ys)
 
     -- left-out types are `_: TypeRange`
     pub types_at : MaybeExprs → ℕ → Doing Scene (List Expr)
     types_at left_out at = do
-      x ← new_number at kind.Tys
+      x ← new_variable at kind.Tys
       pure (x.is ∷ [])
     types_at (written es) at = do
       xs ← expressions es
@@ -161,9 +191,12 @@ module _ (constraint : List ℕ → Constrains) where
 
     -- an entry without a value asks for unit
     pub entry_of : Entry → Doing Scene (List ℕ × Expr)
-    entry_of (entry at n value) = do
-      x ← given value
-      pure (n, unwrap_or x (attr_literal unit))
+    entry_of (entry at n no_expr) = do
+      x ← a_literal_attr at unit
+      pure (n, x.is)
+    entry_of (entry at n (some_expr e)) = do
+      x ← expression e
+      pure (n, x.is)
 
     pub given : MaybeExpr → Doing Scene (Option Expr)
     given no_expr = pure None
@@ -198,9 +231,7 @@ module _ (constraint : List ℕ → Constrains) where
   -- an expression that stands alone; a call is what its constraint asks for
   abbrev pub plain : Syntax → Doing Scene (Unit {0})
   plain (expr at (call_expr n es)) = call n es
-  plain e = do
-    x ← expression e
-    ask (stands x.is)
+  plain e = expression e >> pure tt
 
   abbrev pub let_value : List Ref → Option Syntax → ℕ → Doing Scene (Meant Expr)
   let_value rs None at = do
@@ -208,7 +239,6 @@ module _ (constraint : List ℕ → Constrains) where
     variable at rs t
   let_value rs (Some e) at = do
     x ← expression e
-    ask (stands x.is)
     call_refs rs x
     pure x
 

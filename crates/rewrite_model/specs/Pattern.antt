@@ -14,21 +14,21 @@ pub record Parts (E : Type 0) : Type 0 where
 
 -- ---- the match
 
--- An expression of the match. Each variable, each `_`, each left-out list and each operation expression is known by a
--- number, in the order of first mention, the parts of an operation before it.
+-- An expression of the match. Each variable, each `_`, each left-out list, each literal and each operation expression is
+-- known by a number, in the order of first mention, the parts of an operation before it.
 pub data Expr : Type 0 where
   the : ℕ → Expr
-  attr_literal : Attr → Expr
-  type_literal : Ty → Expr
   result : ℕ → ℕ → Expr  -- result k of operation x
   only_result : ℕ → Expr  -- an operation among operands
 
--- What a match asks for.
+-- What a match asks for, in the order of mention. That an expression denotes something is asked where it is written.
 pub data Demand : Type 0 where
+  stands : Expr → Demand  -- the expression denotes something
+  is_attr : ℕ → Attr → Demand  -- attr<"..">
+  is_type : ℕ → Ty → Demand  -- type<"..">
   has_name : ℕ → List ℕ → Demand  -- op<name>, x: Op<name>
   has_parts : ℕ → Parts Expr → Demand  -- op<..>(..) {..} -> (..)
   has_type : ℕ → Expr → Demand  -- x: Value<t>, x: ValueRange<t>, x: Attr<t>
-  stands : Expr → Demand  -- the expression denotes something
   calls : Constraint → List Expr → Demand
 
 -- ---- the rewrite
@@ -40,6 +40,8 @@ pub data Part : Type 0 where
 
 -- An expression of the rewrite whose parts are there.
 pub data Making : Type 0 where
+  attr_literal : Attr → Making
+  type_literal : Ty → Making
   new_operation : List ℕ → Parts Part → Making
   result_of : Part → ℕ → Making
   only_result_of : Part → Making  -- an operation among operands
@@ -58,7 +60,7 @@ pub data Action : Type 0 where
 pub record Pattern : Type 0 where
   pub name : List ℕ  -- empty where the pattern has none
   pub benefit : ℕ
-  pub kinds : List Kind  -- of the variables and operation expressions 0, 1, ..
+  pub kinds : List Kind  -- of what has the numbers 0, 1, ..
   pub places : List ℕ  -- where each stands in the pattern file
   pub demands : List Demand
   pub root : ℕ

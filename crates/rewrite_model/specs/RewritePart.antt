@@ -10,7 +10,7 @@ use Rattle.pdll_syntax.specs.declared.stmt.Values.{Values}
 use Rattle.pdll_syntax.specs.declared.stmt.Values.TheVariants.{One, Several}
 use Rattle.native_set.specs.declared.native.Kind.{Kind}
 use Rattle.native_set.specs.declared.native.Kind.TheVariants as kind
-use Rattle.rewrite_model.specs.Pattern.{attr_literal, type_literal, Part, matched, made, Making, new_operation, result_of, only_result_of, results_of, result_types_of, Action, makes, replaces, erases}
+use Rattle.rewrite_model.specs.Pattern.{attr_literal, type_literal, Part, made, Making, new_operation, result_of, only_result_of, results_of, result_types_of, Action, makes, replaces, erases}
 use Rattle.rewrite_model.specs.Doing.{Doing, ◌>>=◌, ◌>>◌, pure, change}
 use Rattle.rewrite_model.specs.Names.{Meant, Names, meaning}
 use Rattle.rewrite_model.specs.MatchPart.{meant, literal_attr, literal_type}
@@ -29,7 +29,7 @@ Rewrites = List ℕ → List (Meant Part) → Doing Script (Meant Part)
 
 -- stands where there is nothing to give
 abbrev pub no_part : Meant Part
-no_part = meant kind.Attr (matched (attr_literal unit))
+no_part = meant kind.Attr (made 0)
 
 abbrev pub act : Action → Doing Script (Unit {0})
 act x = change (λ s. record s { actions = s.actions ++ x ∷ [] })
@@ -80,8 +80,8 @@ module _ (rewrite : Rewrites) where
       xs ← all_evaluated es
       rewrite n xs
     form_evaluated (declare_expr n rs) old = pure no_part
-    form_evaluated (attr_expr l) old = pure (meant kind.Attr (matched (attr_literal (literal_attr (attr_of l.bytes)))))
-    form_evaluated (type_expr l) old = pure (meant kind.Ty (matched (type_literal (literal_type (type_of l.bytes)))))
+    form_evaluated (attr_expr l) old = make kind.Attr (attr_literal (literal_attr (attr_of l.bytes)))
+    form_evaluated (type_expr l) old = make kind.Ty (type_literal (literal_type (type_of l.bytes)))
     form_evaluated (op_expr o) old = operation_evaluated o old
     form_evaluated (member_expr e k) old = do
       x ← evaluated e old
@@ -139,7 +139,9 @@ module _ (rewrite : Rewrites) where
 
     -- an entry without a value is unit
     pub value_evaluated : MaybeExpr → Doing Script Part
-    value_evaluated no_expr = pure (matched (attr_literal unit))
+    value_evaluated no_expr = do
+      x ← make kind.Attr (attr_literal unit)
+      pure x.is
     value_evaluated (some_expr e) = do
       x ← evaluated e None
       pure x.is

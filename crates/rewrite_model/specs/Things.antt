@@ -8,7 +8,7 @@ use Rattle.mlir_tree.specs.Tree.{Ty, Attr}
 use Rattle.mlir_tree.specs.Module.{row_of, has_row, is_value}
 use Rattle.native_set.specs.declared.native.Kind.{Kind}
 use Rattle.native_set.specs.declared.native.Kind.TheVariants as kind
-use Rattle.rewrite_model.specs.Pattern.{Expr, the, attr_literal, type_literal, result, only_result}
+use Rattle.rewrite_model.specs.Pattern.{Expr, the, result, only_result}
 
 -- A thing is an operation, a value, a list of values, an attribute, a type or a list of types.
 pub data Thing : Type 0 where
@@ -36,7 +36,7 @@ is_thing rows (an_attr a) = true
 is_thing rows (a_type t) = true
 is_thing rows (some_types ts) = true
 
--- An assignment gives variable k the k-th thing, which is of its kind.
+-- An assignment gives number k the k-th thing, which is of its kind.
 pub record IsAssignment (rows : List Row) (kinds : List Kind) (a : List Thing) : Type 0 where
   pub kinds_fit : map kind_of a ≡ kinds
   pub are_things : IsTrue (list_all (is_thing rows) a)
@@ -97,8 +97,6 @@ each f xs = concatenated (λ x. option_map (λ y. y ∷ []) (f x)) xs
 -- What an expression denotes in a module with an assignment.
 abbrev pub denoted : List Row → List Thing → Expr → Option Thing
 denoted rows a (the x) = slice_get a x
-denoted rows a (attr_literal v) = Some (an_attr v)
-denoted rows a (type_literal t) = Some (a_type t)
 denoted rows a (result x k) = option_and_then (result_at k) (option_and_then (row_at rows) (slice_get a x))
 denoted rows a (only_result x) = option_and_then only_result_at (option_and_then (row_at rows) (slice_get a x))
 
