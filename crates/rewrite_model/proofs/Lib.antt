@@ -18,3 +18,4 @@ mod LayoutRemoved
 mod LayoutInserted
 mod Layouts
 mod WellFormedSteps
+mod Counting

@@ -27,17 +27,17 @@ use Rattle.rewrite_model.proofs.Layouts.{new_dictionaries, inserted_layout}
 
 -- ---- work that didn't stop
 
-abbrev ok_or : {A : Type 0} → A → Outcome A → A
+abbrev pub ok_or : {A : Type 0} → A → Outcome A → A
 ok_or d (Ok x) = x
 ok_or d (Err e) = d
 
-abbrev done : {A : Type 0} → A → Outcome A
+abbrev pub done : {A : Type 0} → A → Outcome A
 done x = Ok x
 
-same_ok : {A : Type 0} (x y : A) → done x ≡ done y → x ≡ y
+pub same_ok : {A : Type 0} (x y : A) → done x ≡ done y → x ≡ y
 same_ok x y e = ap (ok_or x) e
 
-first_of : {A B : Type 0} (o : Outcome A) (f : A → Outcome B) (y : B) → (o >>= f) ≡ Ok y → (x : A) × (o ≡ Ok x) × (f x ≡ Ok y)
+pub first_of : {A B : Type 0} (o : Outcome A) (f : A → Outcome B) (y : B) → (o >>= f) ≡ Ok y → (x : A) × (o ≡ Ok x) × (f x ≡ Ok y)
 first_of (Ok x) f y e = (x, refl, e)
 first_of (Err s) f y e = absurd (cc)
 
@@ -45,18 +45,18 @@ was_there : {A : Type 0} (s : Stop) (o : Option A) (x : A) → or_stop s o ≡ O
 was_there s (Some y) x e = ap Some (same_ok y x e)
 was_there s None x e = absurd (cc)
 
-was_so : (b : Bool) (s : Stop) (x : Unit {0}) → need_or b s ≡ Ok x → b ≡ true
+pub was_so : (b : Bool) (s : Stop) (x : Unit {0}) → need_or b s ≡ Ok x → b ≡ true
 was_so true s x e = refl
 was_so false s x e = absurd (cc)
 
 not_zero : (n : ℕ) → not (nat_eq n 0) ≡ true → n ≢ 0
 not_zero n e z = grind (arith, nat_tests, e, z)
 
-both_true : (a b : Bool) → (a && b) ≡ true → (a ≡ true) × (b ≡ true)
+pub both_true : (a b : Bool) → (a && b) ≡ true → (a ≡ true) × (b ≡ true)
 both_true true b p = (refl, p)
 both_true false b p = absurd (cc)
 
-at_most : (a b : ℕ) → nat_le a b ≡ true → a ≤ b
+pub at_most : (a b : ℕ) → nat_le a b ≡ true → a ≤ b
 at_most a b e = grind (arith, nat_tests, e)
 
 module _ (start : Start) where
@@ -153,7 +153,7 @@ rewrites_keep_layout p a id m q l e = all_acted (start_at m a id) p.actions (beg
 layout_of : (m : Rows) → IsWellFormed m → IsLaidOut m
 layout_of m w = record { numbers = w.numbers; nesting = w.nesting; dictionaries = w.dictionaries; sizes = w.sizes }
 
-accepted_same : (m n : Rows) (o : Option BadUse) → accepted m o ≡ Ok n → m ≡ n
+pub accepted_same : (m n : Rows) (o : Option BadUse) → accepted m o ≡ Ok n → m ≡ n
 accepted_same m n None e = same_ok m n e
 accepted_same m n (Some u) e = absurd (cc)
 

@@ -1,16 +1,16 @@
 -- What the definitions promise of one another.
-use Rattle.std.specs.Prelude.{◌≡◌, ◌⊎◌, ℕ, List, All, Ok}
+use Rattle.std.specs.Prelude.{◌≡◌, ◌⊎◌, ℕ, ◌+◌, ◌≤◌, List, [], ◌∷◌, length, All, Ok}
 use Rattle.mlir_tree.specs.declared.row.Row.{Row}
 use Rattle.mlir_tree.specs.declared.rows.Rows.{Rows}
 use Rattle.mlir_tree.specs.WellFormed.{AreNumbered, AreNested, HasVisibleOperands, HasDictionaries, HasSizes, IsWellFormed}
 use Rattle.rewrite_model.specs.declared.run.Hit.{Hit}
 use Rattle.rewrite_model.specs.declared.run.Ending.TheVariants.{Converged}
-use Rattle.rewrite_model.specs.Pattern.{Pattern}
+use Rattle.rewrite_model.specs.Pattern.{new_operation, Action, makes, Pattern}
 use Rattle.rewrite_model.specs.Things.{Thing}
 use Rattle.rewrite_model.specs.Determined.{IsDetermined, AreDetermined}
 use Rattle.rewrite_model.specs.Matching.{MatchesBy, Matches}
 use Rattle.rewrite_model.specs.Taken.{KeepsOrder}
-use Rattle.rewrite_model.specs.Making.{Progress}
+use Rattle.rewrite_model.specs.Making.{Progress, all_slots}
 use Rattle.rewrite_model.specs.Step.{rewritten, step}
 use Rattle.rewrite_model.specs.Running.{Course, taken, NoneAmong, Runs}
 
@@ -64,6 +64,28 @@ StepsKeepWellFormed = (p : Pattern) (a : List Thing) (id : ℕ) (m n : Rows) →
 -- So does a run.
 abbrev pub RunsKeepWellFormed : Type 0
 RunsKeepWellFormed = (ps : List Pattern) (n : ℕ) (m : Rows) (c : Course) → IsWellFormed m → Runs ps n m c → IsWellFormed c.rows
+
+abbrev pub is_new : Action → ℕ
+is_new (makes (new_operation name o)) = 1
+is_new x = 0
+
+-- how many operations the actions make
+abbrev pub new_operations : List Action → ℕ
+new_operations [] = 0
+new_operations (x ∷ xs) = is_new x + new_operations xs
+
+-- A step gives as many numbers as its pattern makes operations.
+abbrev pub StepsGiveNumbers : Type 0
+StepsGiveNumbers = (p : Pattern) (a : List Thing) (id : ℕ) (m n : Rows) → step p a id m ≡ Ok n → n.next ≡ m.next + new_operations p.actions
+
+-- At most 4,000,000 rows, with at most 16,000,000 operands and results.
+pub record KeepsLimits (m : Rows) : Type 0 where
+  pub rows : length m.rows ≤ 4000000
+  pub slots : all_slots m.rows ≤ 16000000
+
+-- A step keeps these limits.
+abbrev pub StepsKeepLimits : Type 0
+StepsKeepLimits = (p : Pattern) (a : List Thing) (id : ℕ) (m n : Rows) → KeepsLimits m → step p a id m ≡ Ok n → KeepsLimits n
 
 -- The numbers that a step made rise, and so do those that it removed.
 abbrev pub NumbersRise : Type 0

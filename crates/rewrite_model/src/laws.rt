@@ -1,6 +1,6 @@
 //! Laws of the definitions. Each is a call that does nothing and promises the law.
 
-ghost use Rattle.rewrite_model.specs.Laws.{AtMostOneAssignment, MatchesAreDecided, OneRun, ConvergedRunsMatchNowhere, StepsKeepOperandsVisible, RunsKeepOperandsVisible, RewritesKeepLayout, StepsKeepWellFormed, RunsKeepWellFormed, NumbersRise};
+ghost use Rattle.rewrite_model.specs.Laws.{AtMostOneAssignment, MatchesAreDecided, OneRun, ConvergedRunsMatchNowhere, StepsKeepOperandsVisible, RunsKeepOperandsVisible, RewritesKeepLayout, StepsKeepWellFormed, RunsKeepWellFormed, StepsGiveNumbers, StepsKeepLimits, NumbersRise};
 
 /// A pattern whose variables and operation expressions are all determined, and whose lists have at most one range each,
 /// matches at an operation by at most one assignment.
@@ -46,6 +46,16 @@ pub fn steps_keep_well_formed()
 /// So does a run.
 pub fn runs_keep_well_formed()
     ensures { RunsKeepWellFormed }
+{}
+
+/// A step gives as many numbers as its pattern makes operations.
+pub fn steps_give_numbers()
+    ensures { StepsGiveNumbers }
+{}
+
+/// A step keeps the limits on operations and on their operands and results.
+pub fn steps_keep_limits()
+    ensures { StepsKeepLimits }
 {}
 
 /// The numbers of the operations that a step made rise, and so do those of the operations that it removed.
