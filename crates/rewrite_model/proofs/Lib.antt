@@ -1,6 +1,7 @@
 pub mod Samples
 mod Examples
 mod ExpandingExamples
+mod BodiesExamples
 mod LogExamples
 mod Told
 mod Unique

@@ -24,8 +24,9 @@ values_of es = map (λ e. e.1) es
 abbrev pub IsPart : Expr → Parts Expr → Type 0
 IsPart e o = IsIn e o.operands ⊎ (IsIn e (values_of o.entries) ⊎ IsIn e o.types)
 
--- What is given is determined: the root, or the parameters of a constraint. So are literals. With an operation its operands, attributes
--- and types are, and with those the operations whose results they are. With a variable its written type is.
+-- What is given is determined: the root, or the parameters of a constraint. So are literals. With an operation its
+-- operands, attributes and types are, and with those the operations whose results they are. With a variable its written
+-- type is.
 pub data Determined (given : List ℕ) (demands : List Demand) : ℕ → Type 0 where
   given_one : (x : ℕ) → IsIn x given → Determined given demands x
   attr_told : (x : ℕ) (v : Attr) → IsIn (is_attr x v) demands → Determined given demands x

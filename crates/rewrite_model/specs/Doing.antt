@@ -26,10 +26,3 @@ change f = λ s. (tt, f s)
 abbrev pub for_each : {S A : Type 0} → (A → Doing S (Unit {0})) → List A → Doing S (Unit {0})
 for_each f [] = pure tt
 for_each f (x ∷ xs) = f x >> for_each f xs
-
-abbrev pub map_each : {S A B : Type 0} → (A → Doing S B) → List A → Doing S (List B)
-map_each f [] = pure []
-map_each f (x ∷ xs) = do
-  y ← f x
-  ys ← map_each f xs
-  pure (y ∷ ys)

@@ -35,7 +35,7 @@ form_name form = None
 abbrev pub ref_name : Ref → Option (List ℕ)
 ref_name (ref at form) = form_name form
 
--- The kind that refs write: the first, else that of the first constraint's parameter. Without refs there is none.
+-- the first that is there
 abbrev pub kind_from : Option Written → Option Written → Option Written
 kind_from (Some k) more = Some k
 kind_from None more = more
@@ -48,6 +48,8 @@ abbrev pub named_kind : (List ℕ → Written) → List Ref → Option Written
 named_kind param [] = None
 named_kind param (r ∷ rs) = kind_from (option_map param (ref_name r)) (named_kind param rs)
 
+-- The kind that refs write: the first, else that of the first constraint's parameter. Where there are no refs, nothing
+-- asks for a kind, and it is taken for a value.
 abbrev pub written_kind : (List ℕ → Written) → List Ref → Written
 written_kind param rs = unwrap_or (kind_from (first_kind rs) (named_kind param rs)) (of_kind kind.Value)
 

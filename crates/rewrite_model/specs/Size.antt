@@ -1,6 +1,5 @@
 -- How large a declaration is after expanding, counted without expanding.
 use Rattle.std.specs.Prelude.{ℕ, ◌+◌, Bool, true, false, List, [], ◌∷◌, Option, Some, None}
-use Rattle.std.specs.Option.{option_map_or}
 use Rattle.std.specs.Str.{bytes_eq}
 use Rattle.pdll_syntax.specs.declared.stmt.Body.{Body}
 use Rattle.pdll_syntax.specs.declared.stmt.Body.TheVariants as body
@@ -130,30 +129,32 @@ module _ (called : List ℕ → Size) where
   result_size None = nothing
   result_size (Some r) = ref_size r
 
+  -- what stands for a call: the constraints of the parameters, and the body
   abbrev pub call_size : CallDecl → Size
-  call_size c = params_size c.params and result_size c.gives and body_size c.body
+  call_size c = params_size c.params and body_size c.body
 
   abbrev pub decl_size : Decl → Size
   decl_size (decl.Pattern p) = body_size p.body
-  decl_size (decl.Constraint c) = call_size c
-  decl_size (decl.Rewrite c) = call_size c
+  decl_size (decl.Constraint c) = call_size c and result_size c.gives
+  decl_size (decl.Rewrite c) = call_size c and result_size c.gives
 
-abbrev pub call_name : Decl → Option (List ℕ)
-call_name (decl.Pattern p) = None
-call_name (decl.Constraint c) = Some c.name.text
-call_name (decl.Rewrite c) = Some c.name.text
+abbrev pub callee : Decl → Option CallDecl
+callee (decl.Pattern p) = None
+callee (decl.Constraint c) = Some c
+callee (decl.Rewrite c) = Some c
 
-abbrev pub is_called : Decl → List ℕ → Bool
-is_called d n = option_map_or (λ m. bytes_eq m n) (call_name d) false
+abbrev pub size_if : Bool → (List ℕ → Size) → CallDecl → List ℕ → Size
+size_if true earlier c n = call_size earlier c
+size_if false earlier c n = earlier n
 
-abbrev pub size_if : Bool → (List ℕ → Size) → Decl → List ℕ → Size
-size_if true earlier d n = decl_size earlier d
-size_if false earlier d n = earlier n
+abbrev pub size_by : Option CallDecl → (List ℕ → Size) → List ℕ → Size
+size_by None earlier n = earlier n
+size_by (Some c) earlier n = size_if (bytes_eq c.name.text n) earlier c n
 
 -- The size of what a call stands for, by the declarations before it, the last one first.
 abbrev pub sizes : List Decl → List ℕ → Size
 sizes [] n = nothing
-sizes (d ∷ earlier) n = size_if (is_called d n) (sizes earlier) d n
+sizes (d ∷ earlier) n = size_by (callee d) (sizes earlier) n
 
 -- The size of a declaration after expanding, by the declarations before it, the last one first.
 unfoldable pub expanded_size : List Decl → Decl → Size
