@@ -178,22 +178,22 @@ with_dead more = module_of
     ∷ op 3 (codes "t.c") (Res 2 0 ∷ []) (i32 ∷ [])
     ∷ more) 5
 
-abbrev fuse_given : List Thing
+abbrev pub fuse_given : List Thing
 fuse_given = some_values [] ∷ some_types (i32 ∷ []) ∷ an_op 1 ∷ some_types (i32 ∷ []) ∷ an_op 2 ∷ some_types (i32 ∷ []) ∷ an_op 3 ∷ []
 
 -- Without the dead operation the first value has one use.
-fuse_match : MatchesBy (with_dead []).rows fuse fuse_given 3
+pub fuse_match : MatchesBy (with_dead []).rows fuse fuse_given 3
 fuse_match = record {
   assigned = record { kinds_fit = refl; are_things = refl };
   holds = ((_, refl), ((_, refl), (refl, ((_, refl, record { operands = refl; entries = tt; types = refl }), ((_, refl), ((_, refl), (refl, ((_, refl, record { operands = refl; entries = tt; types = refl }), ((_, refl), ((_, refl), (refl, ((_, refl, record { operands = refl; entries = tt; types = refl }), ((_, refl), ((_, refl, refl), tt))))))))))))));
   root = refl;
 }
 
-drop_step : step drop_dead (some_values (Res 1 0 ∷ []) ∷ some_types [] ∷ an_op 4 ∷ []) 4 (with_dead (op 4 (codes "t.dead") (Res 1 0 ∷ []) [] ∷ [])) ≡ Ok (with_dead [])
+pub drop_step : step drop_dead (some_values (Res 1 0 ∷ []) ∷ some_types [] ∷ an_op 4 ∷ []) 4 (with_dead (op 4 (codes "t.dead") (Res 1 0 ∷ []) [] ∷ [])) ≡ Ok (with_dead [])
 unfolding step rewritten bad_use is_visible enclosing inserted put_before substituted removed
 drop_step = refl
 
-fuse_step : step fuse fuse_given 3 (with_dead []) ≡ Ok (module_of
+pub fuse_step : step fuse fuse_given 3 (with_dead []) ≡ Ok (module_of
     (op 1 (codes "t.a") [] (i32 ∷ [])
     ∷ op 2 (codes "t.b") (Res 1 0 ∷ []) (i32 ∷ [])
     ∷ op 5 (codes "t.abc") [] (i32 ∷ []) ∷ []) 6)

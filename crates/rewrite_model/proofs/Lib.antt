@@ -1,22 +1,24 @@
 pub mod Samples
-mod Examples
-mod ExpandingExamples
-mod BodiesExamples
-mod LogExamples
-mod Told
-mod Unique
-mod Deciding
-mod OneRun
-mod SomeRun
-mod Courses
-mod Refuting
-mod RunExamples
-mod Kept
-mod PutIn
-mod Places
-mod LayoutSubstituted
-mod LayoutRemoved
-mod LayoutInserted
-mod Layouts
-mod WellFormedSteps
-mod Counting
+pub mod Examples
+pub mod ExpandingExamples
+pub mod BodiesExamples
+pub mod LogExamples
+pub mod Told
+pub mod Unique
+pub mod Deciding
+pub mod OneRun
+pub mod SomeRun
+pub mod Courses
+pub mod Refuting
+pub mod RunExamples
+pub mod Kept
+pub mod PutIn
+pub mod Places
+pub mod LayoutSubstituted
+pub mod LayoutRemoved
+pub mod LayoutInserted
+pub mod Layouts
+pub mod WellFormedSteps
+pub mod Counting
+pub mod Closing
+pub mod BestExamples

@@ -232,7 +232,7 @@ pick_part ks r e o (inl i) = pick e o.operands i (cut a_value some_values (map (
 pick_part ks r e o (inr (inl i)) = pick_entry r e o.entries i
 pick_part ks r e o (inr (inr i)) = pick e o.types i (cut a_type some_types (map (is_range ks) o.types) r.results)
 
-picked_part : (rows : List Row) (ks : List Kind) (a : List Thing) → map kind_of a ≡ ks → (r : Row) (e : Expr) (o : Parts Expr) (i : IsPart e o)
+pub picked_part : (rows : List Row) (ks : List Kind) (a : List Thing) → map kind_of a ≡ ks → (r : Row) (e : Expr) (o : Parts Expr) (i : IsPart e o)
     → HasOneRange ks o.operands × HasOneRange ks o.types → HasParts rows a o r → denoted rows a e ≡ pick_part ks r e o i
 picked_part rows ks a fits r e o (inl i) one d =
     picked rows a e o.operands i (cut a_value some_values (map (is_range ks) o.operands) r.operands)
@@ -250,13 +250,13 @@ module _ (rows : List Row) (ks : List Kind) (demands : List Demand) (root : ℕ)
   told _ (part_of x y o e d t i s) = option_and_then (variable_in e) (option_and_then (λ r. pick_part ks r e o i) (option_and_then (row_at rows) (told x t)))
   told _ (type_of x y e d t s) = option_and_then (variable_in e) (option_and_then (thing_type rows) (told x t))
 
-holding : (P : Demand → Type 0) (d : Demand) (ds : List Demand) → IsIn d ds → AllByRecursion P ds → P d
+pub holding : (P : Demand → Type 0) (d : Demand) (ds : List Demand) → IsIn d ds → AllByRecursion P ds → P d
 holding P d [] i h = elim i [ ]
 holding P d (x ∷ ds) (inl i) h = subst P (sym i) h.0
 holding P d (x ∷ ds) (inr i) h = holding P d ds i h.1
 
 -- a part denotes something
-part_denotes : (rows : List Row) (ks : List Kind) (a : List Thing) → map kind_of a ≡ ks → (r : Row) (e : Expr) (o : Parts Expr) → IsPart e o
+pub part_denotes : (rows : List Row) (ks : List Kind) (a : List Thing) → map kind_of a ≡ ks → (r : Row) (e : Expr) (o : Parts Expr) → IsPart e o
     → HasOneRange ks o.operands × HasOneRange ks o.types → HasParts rows a o r → (t : Thing) × (denoted rows a e ≡ Some t)
 part_denotes rows ks a fits r e o (inl i) one d = operand o.operands i r.operands d.operands where
   operand : (es : List Expr) → IsIn e es → (vs : List Val) → concatenated (values_denoted rows a) es ≡ Some vs → (t : Thing) × (denoted rows a e ≡ Some t)
