@@ -22,3 +22,4 @@ pub mod WellFormedSteps
 pub mod Counting
 pub mod Closing
 pub mod BestExamples
+pub mod Bounding

@@ -3,9 +3,14 @@ use Rattle.std.specs.Prelude.{◌≡◌, ◌⊎◌, ℕ, ◌+◌, ◌≤◌, Lis
 use Rattle.mlir_tree.specs.declared.row.Row.{Row}
 use Rattle.mlir_tree.specs.declared.rows.Rows.{Rows}
 use Rattle.mlir_tree.specs.WellFormed.{AreNumbered, AreNested, HasVisibleOperands, HasDictionaries, HasSizes, IsWellFormed}
+use Rattle.pdll_syntax.specs.declared.file.Decl.{Decl}
+use Rattle.pdll_syntax.specs.declared.file.Decl.TheVariants as decl
+use Rattle.pdll_syntax.specs.declared.file.PatternDecl.{PatternDecl}
 use Rattle.rewrite_model.specs.declared.run.Hit.{Hit}
 use Rattle.rewrite_model.specs.declared.run.Ending.TheVariants.{Converged}
 use Rattle.rewrite_model.specs.Pattern.{new_operation, Action, makes, Pattern}
+use Rattle.rewrite_model.specs.Expanding.{expanded}
+use Rattle.rewrite_model.specs.Size.{expanded_size}
 use Rattle.rewrite_model.specs.Things.{Thing}
 use Rattle.rewrite_model.specs.Determined.{IsDetermined, AreDetermined}
 use Rattle.rewrite_model.specs.Matching.{MatchesBy, Matches}
@@ -77,6 +82,10 @@ new_operations (x ∷ xs) = is_new x + new_operations xs
 -- A step gives as many numbers as its pattern makes operations.
 abbrev pub StepsGiveNumbers : Type 0
 StepsGiveNumbers = (p : Pattern) (a : List Thing) (id : ℕ) (m n : Rows) → step p a id m ≡ Ok n → n.next ≡ m.next + new_operations p.actions
+
+-- A pattern makes at most as many operations as its declaration has operation expressions after expanding.
+abbrev pub SizesBoundOperations : Type 0
+SizesBoundOperations = (earlier : List Decl) (p : PatternDecl) → new_operations (expanded earlier p).actions ≤ (expanded_size earlier (decl.Pattern p)).operations
 
 -- At most 4,000,000 rows, with at most 16,000,000 operands and results.
 pub record KeepsLimits (m : Rows) : Type 0 where

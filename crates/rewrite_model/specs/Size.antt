@@ -33,15 +33,19 @@ one_operation = record { statements = 0; operations = 1; expressions = 0 }
 abbrev pub one_expression : Size
 one_expression = record { statements = 0; operations = 0; expressions = 1 }
 
--- by the sizes of the bodies that are called
-module _ (called : List ℕ → Size) where
+-- What the calls of a name add. In an accepted file only one of the two is declared.
+pub record Called : Type 0 where
+  pub constraint : List ℕ → Size
+  pub rewrite : List ℕ → Size
+
+module _ (called : Called) where
   abbrev mutual
     pub expr_size : Expr → Size
     expr_size (expr at form) = form_size form
 
     pub form_size : ExprForm → Size
     form_size (name_expr n) = one_expression
-    form_size (call_expr n xs) = one_expression and exprs_size xs and called n
+    form_size (call_expr n xs) = one_expression and exprs_size xs and called.constraint n and called.rewrite n
     form_size (declare_expr n rs) = one_expression and refs_size rs
     form_size (attr_expr l) = one_expression
     form_size (type_expr l) = one_expression
@@ -84,7 +88,7 @@ module _ (called : List ℕ → Size) where
     ref_form_size type_range_ref = nothing
     ref_form_size (value_ref t) = of_size t
     ref_form_size (value_range_ref t) = of_size t
-    ref_form_size (named_ref n) = called n
+    ref_form_size (named_ref n) = called.constraint n
 
     pub of_size : MaybeExpr → Size
     of_size no_expr = nothing
@@ -138,23 +142,22 @@ module _ (called : List ℕ → Size) where
   decl_size (decl.Constraint c) = call_size c and result_size c.gives
   decl_size (decl.Rewrite c) = call_size c and result_size c.gives
 
-abbrev pub callee : Decl → Option CallDecl
-callee (decl.Pattern p) = None
-callee (decl.Constraint c) = Some c
-callee (decl.Rewrite c) = Some c
+abbrev pub size_if : Bool → Size → Size → Size
+size_if true here more = here
+size_if false here more = more
 
-abbrev pub size_if : Bool → (List ℕ → Size) → CallDecl → List ℕ → Size
-size_if true earlier c n = call_size earlier c
-size_if false earlier c n = earlier n
+abbrev pub with_constraint : CallDecl → Called → Called
+with_constraint c earlier = record earlier { constraint = λ n. size_if (bytes_eq c.name.text n) (call_size earlier c) (earlier.constraint n) }
 
-abbrev pub size_by : Option CallDecl → (List ℕ → Size) → List ℕ → Size
-size_by None earlier n = earlier n
-size_by (Some c) earlier n = size_if (bytes_eq c.name.text n) earlier c n
+abbrev pub with_rewrite : CallDecl → Called → Called
+with_rewrite c earlier = record earlier { rewrite = λ n. size_if (bytes_eq c.name.text n) (call_size earlier c) (earlier.rewrite n) }
 
--- The size of what a call stands for, by the declarations before it, the last one first.
-abbrev pub sizes : List Decl → List ℕ → Size
-sizes [] n = nothing
-sizes (d ∷ earlier) n = size_by (callee d) (sizes earlier) n
+-- What calls add, by the declarations before them, the last one first.
+abbrev pub sizes : List Decl → Called
+sizes [] = record { constraint = λ n. nothing; rewrite = λ n. nothing }
+sizes ((decl.Pattern p) ∷ earlier) = sizes earlier
+sizes ((decl.Constraint c) ∷ earlier) = with_constraint c (sizes earlier)
+sizes ((decl.Rewrite c) ∷ earlier) = with_rewrite c (sizes earlier)
 
 -- The size of a declaration after expanding, by the declarations before it, the last one first.
 unfoldable pub expanded_size : List Decl → Decl → Size
