@@ -23,3 +23,4 @@ pub mod Counting
 pub mod Closing
 pub mod BestExamples
 pub mod Bounding
+pub mod Placing

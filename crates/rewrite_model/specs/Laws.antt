@@ -5,11 +5,12 @@ use Rattle.mlir_tree.specs.declared.rows.Rows.{Rows}
 use Rattle.mlir_tree.specs.WellFormed.{AreNumbered, AreNested, HasVisibleOperands, HasDictionaries, HasSizes, IsWellFormed}
 use Rattle.pdll_syntax.specs.declared.file.Decl.{Decl}
 use Rattle.pdll_syntax.specs.declared.file.Decl.TheVariants as decl
+use Rattle.pdll_syntax.specs.declared.file.CallDecl.{CallDecl}
 use Rattle.pdll_syntax.specs.declared.file.PatternDecl.{PatternDecl}
 use Rattle.rewrite_model.specs.declared.run.Hit.{Hit}
 use Rattle.rewrite_model.specs.declared.run.Ending.TheVariants.{Converged}
 use Rattle.rewrite_model.specs.Pattern.{new_operation, Action, makes, Pattern}
-use Rattle.rewrite_model.specs.Expanding.{expanded}
+use Rattle.rewrite_model.specs.Expanding.{expanded, constraint_scene}
 use Rattle.rewrite_model.specs.Size.{expanded_size}
 use Rattle.rewrite_model.specs.Things.{Thing}
 use Rattle.rewrite_model.specs.Determined.{IsDetermined, AreDetermined}
@@ -69,6 +70,12 @@ StepsKeepWellFormed = (p : Pattern) (a : List Thing) (id : ℕ) (m n : Rows) →
 -- So does a run.
 abbrev pub RunsKeepWellFormed : Type 0
 RunsKeepWellFormed = (ps : List Pattern) (n : ℕ) (m : Rows) (c : Course) → IsWellFormed m → Runs ps n m c → IsWellFormed c.rows
+
+-- Each number of a pattern has a place in the file, and so has each number of a constraint by itself.
+abbrev pub NumbersHavePlaces : Type 0
+NumbersHavePlaces =
+    ((earlier : List Decl) (p : PatternDecl) → length (expanded earlier p).places ≡ length (expanded earlier p).kinds)
+    × ((earlier : List Decl) (c : CallDecl) → length (constraint_scene earlier c).places ≡ length (constraint_scene earlier c).kinds)
 
 abbrev pub is_new : Action → ℕ
 is_new (makes (new_operation name o)) = 1
