@@ -18,8 +18,8 @@ use Rattle.rewrite_model.specs.Pattern.{Parts, Part, Making, attr_literal, type_
 use Rattle.rewrite_model.specs.Things.{Thing, an_attr, a_type, result_at, only_result_at, each}
 use Rattle.rewrite_model.specs.Making.{Stop, breaks, bound, Start, Progress, Outcome, ◌>>=◌, or_break, or_stop, need_or, need, slots_of, results, are_live, have_types, native_result, part, live_row, values_at, types_at, entries_at, new_row, need_room, giving, put_in, create, making, edited, replace, erase, act, act_all}
 use Rattle.rewrite_model.specs.Step.{begun, start_at, rewritten, accepted, step}
-use Rattle.rewrite_model.specs.Running.{converges, is_bounded, is_stopped, goes_on}
-use Rattle.rewrite_model.specs.Laws.{IsLaidOut, RewritesKeepLayout, StepsKeepWellFormed, RunsKeepWellFormed}
+use Rattle.rewrite_model.specs.Running.{converges, is_bounded, is_stopped, goes_on, stays, steps_on}
+use Rattle.rewrite_model.specs.Laws.{IsLaidOut, RewritesKeepLayout, StepsKeepWellFormed, RunsKeepWellFormed, RunsReachTheirEnd}
 use Rattle.rewrite_model.proofs.Courses.{steps_keep_visible}
 use Rattle.rewrite_model.proofs.LayoutSubstituted.{substituted_layout}
 use Rattle.rewrite_model.proofs.LayoutRemoved.{removed_layout}
@@ -169,8 +169,12 @@ steps_keep_well_formed p a id m n w e =
     record { numbers = l.numbers; nesting = l.nesting; operands = steps_keep_visible p a id m n e; dictionaries = l.dictionaries; sizes = l.sizes }
 
 pub runs_keep_well_formed : RunsKeepWellFormed
-runs_keep_well_formed ps n m _ w (converges z) = w
-runs_keep_well_formed ps _ m _ w (is_bounded s) = w
-runs_keep_well_formed ps _ m _ w (is_stopped s a e) = w
-runs_keep_well_formed ps (suc n) m _ w (goes_on {m' = m'} {h = h} {p = p} {a = a} {c = c} s k e r) =
-    runs_keep_well_formed ps n m' c (steps_keep_well_formed p a h.row m m' w e) r
+runs_keep_well_formed ps n m _ w stays = w
+runs_keep_well_formed ps (suc n) m k w (steps_on {m' = m'} {h = h} {p = p} {a = a} s i e r) =
+    runs_keep_well_formed ps n m' k (steps_keep_well_formed p a h.row m m' w e) r
+
+pub runs_reach_their_end : RunsReachTheirEnd
+runs_reach_their_end ps n m _ (converges z) = stays
+runs_reach_their_end ps _ m _ (is_bounded s) = stays
+runs_reach_their_end ps _ m _ (is_stopped s a e) = stays
+runs_reach_their_end ps (suc n) m _ (goes_on {m' = m'} {c = c} s k e r) = steps_on s k e (runs_reach_their_end ps n m' c r)

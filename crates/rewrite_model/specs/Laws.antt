@@ -18,7 +18,7 @@ use Rattle.rewrite_model.specs.Matching.{MatchesBy, Matches}
 use Rattle.rewrite_model.specs.Taken.{KeepsOrder}
 use Rattle.rewrite_model.specs.Making.{Progress, all_slots}
 use Rattle.rewrite_model.specs.Step.{rewritten, step}
-use Rattle.rewrite_model.specs.Running.{Course, taken, NoneAmong, Runs}
+use Rattle.rewrite_model.specs.Running.{Course, taken, NoneAmong, Runs, Reaches}
 
 -- A pattern whose variables and operation expressions are all determined matches at an operation by at most one assignment.
 abbrev pub AtMostOneAssignment : Type 0
@@ -67,9 +67,13 @@ RewritesKeepLayout = (p : Pattern) (a : List Thing) (id : ℕ) (m : Rows) (q : P
 abbrev pub StepsKeepWellFormed : Type 0
 StepsKeepWellFormed = (p : Pattern) (a : List Thing) (id : ℕ) (m n : Rows) → IsWellFormed m → step p a id m ≡ Ok n → IsWellFormed n
 
--- So does a run.
+-- So every module of a run is well-formed that begins at a well-formed one.
 abbrev pub RunsKeepWellFormed : Type 0
-RunsKeepWellFormed = (ps : List Pattern) (n : ℕ) (m : Rows) (c : Course) → IsWellFormed m → Runs ps n m c → IsWellFormed c.rows
+RunsKeepWellFormed = (ps : List Pattern) (n : ℕ) (m k : Rows) → IsWellFormed m → Reaches ps n m k → IsWellFormed k
+
+-- The module at the end of a run is one of its modules.
+abbrev pub RunsReachTheirEnd : Type 0
+RunsReachTheirEnd = (ps : List Pattern) (n : ℕ) (m : Rows) (c : Course) → Runs ps n m c → Reaches ps n m c.rows
 
 -- Each number of a pattern has a place in the file, and so has each number of a constraint by itself.
 abbrev pub NumbersHavePlaces : Type 0

@@ -65,3 +65,11 @@ pub data Runs (ps : List Pattern) : ℕ → Rows → Course → Type 0 where
       → IsNext ps m.rows h p → MatchesBy m.rows p a h.row → step p a h.row m ≡ Ok m'
       → Runs ps n m' c
       → Runs ps (suc n) m (after_step (taken p h m m') c)
+
+-- The modules of a run: the one that it begins at, and the one after each step.
+pub data Reaches (ps : List Pattern) : ℕ → Rows → Rows → Type 0 where
+  stays : {n : ℕ} {m : Rows} → Reaches ps n m m
+  steps_on : {n : ℕ} {m m' k : Rows} {h : Hit} {p : Pattern} {a : List Thing}
+      → IsNext ps m.rows h p → MatchesBy m.rows p a h.row → step p a h.row m ≡ Ok m'
+      → Reaches ps n m' k
+      → Reaches ps (suc n) m k

@@ -1,6 +1,6 @@
 //! Laws of the definitions. Each is a call that does nothing and promises the law.
 
-ghost use Rattle.rewrite_model.specs.Laws.{AtMostOneAssignment, MatchesAreDecided, OneRun, ConvergedRunsMatchNowhere, StepsKeepOperandsVisible, RunsKeepOperandsVisible, RewritesKeepLayout, StepsKeepWellFormed, RunsKeepWellFormed, NumbersHavePlaces, SizesBoundOperations, StepsGiveNumbers, StepsKeepLimits, NumbersRise};
+ghost use Rattle.rewrite_model.specs.Laws.{AtMostOneAssignment, MatchesAreDecided, OneRun, ConvergedRunsMatchNowhere, StepsKeepOperandsVisible, RunsKeepOperandsVisible, RewritesKeepLayout, StepsKeepWellFormed, RunsKeepWellFormed, RunsReachTheirEnd, NumbersHavePlaces, SizesBoundOperations, StepsGiveNumbers, StepsKeepLimits, NumbersRise};
 
 /// A pattern whose variables and operation expressions are all determined, and whose lists have at most one range each,
 /// matches at an operation by at most one assignment.
@@ -43,9 +43,14 @@ pub fn steps_keep_well_formed()
     ensures { StepsKeepWellFormed }
 {}
 
-/// So does a run.
+/// So every module of a run is well-formed that begins at a well-formed one.
 pub fn runs_keep_well_formed()
     ensures { RunsKeepWellFormed }
+{}
+
+/// The module at the end of a run is one of its modules.
+pub fn runs_reach_their_end()
+    ensures { RunsReachTheirEnd }
 {}
 
 /// Each number of a pattern, and of a constraint by itself, has a place in the file.
