@@ -24,3 +24,4 @@ pub mod Closing
 pub mod BestExamples
 pub mod Bounding
 pub mod Placing
+pub mod Ordering

@@ -1,5 +1,6 @@
 -- What the definitions promise of one another.
-use Rattle.std.specs.Prelude.{◌≡◌, ◌⊎◌, ℕ, ◌+◌, ◌≤◌, List, [], ◌∷◌, length, All, Ok}
+use Rattle.std.specs.Prelude.{◌≡◌, ◌⊎◌, ℕ, ◌+◌, ◌≤◌, List, [], ◌∷◌, length, All, Ok, ⊤}
+use Rattle.std.specs.List.{AllByRecursion}
 use Rattle.mlir_tree.specs.declared.row.Row.{Row}
 use Rattle.mlir_tree.specs.declared.rows.Rows.{Rows}
 use Rattle.mlir_tree.specs.WellFormed.{AreNumbered, AreNested, HasVisibleOperands, HasDictionaries, HasSizes, IsWellFormed}
@@ -9,11 +10,11 @@ use Rattle.pdll_syntax.specs.declared.file.CallDecl.{CallDecl}
 use Rattle.pdll_syntax.specs.declared.file.PatternDecl.{PatternDecl}
 use Rattle.rewrite_model.specs.declared.run.Hit.{Hit}
 use Rattle.rewrite_model.specs.declared.run.Ending.TheVariants.{Converged}
-use Rattle.rewrite_model.specs.Pattern.{new_operation, Action, makes, Pattern}
+use Rattle.rewrite_model.specs.Pattern.{Expr, the, result, only_result, Demand, has_parts, has_type, new_operation, Action, makes, Pattern}
 use Rattle.rewrite_model.specs.Expanding.{expanded, constraint_scene}
 use Rattle.rewrite_model.specs.Size.{expanded_size}
 use Rattle.rewrite_model.specs.Things.{Thing}
-use Rattle.rewrite_model.specs.Determined.{IsDetermined, AreDetermined}
+use Rattle.rewrite_model.specs.Determined.{values_of, IsDetermined, AreDetermined}
 use Rattle.rewrite_model.specs.Matching.{MatchesBy, Matches}
 use Rattle.rewrite_model.specs.Taken.{KeepsOrder}
 use Rattle.rewrite_model.specs.Making.{Progress, all_slots}
@@ -80,6 +81,23 @@ abbrev pub NumbersHavePlaces : Type 0
 NumbersHavePlaces =
     ((earlier : List Decl) (p : PatternDecl) → length (expanded earlier p).places ≡ length (expanded earlier p).kinds)
     × ((earlier : List Decl) (c : CallDecl) → length (constraint_scene earlier c).places ≡ length (constraint_scene earlier c).kinds)
+
+abbrev pub number_in : Expr → ℕ
+number_in (the x) = x
+number_in (result x k) = x
+number_in (only_result x) = x
+
+abbrev pub AreUpTo : ℕ → List Expr → Type 0
+AreUpTo x es = AllByRecursion (λ e. number_in e ≤ x) es
+
+abbrev pub HasPartsUpTo : Demand → Type 0
+HasPartsUpTo (has_parts x o) = AreUpTo x o.operands × AreUpTo x (values_of o.entries) × AreUpTo x o.types
+HasPartsUpTo (has_type x e) = number_in e ≤ x
+HasPartsUpTo d = ⊤
+
+-- The numbers of the parts of an operation are not above its own, nor is that of a written type above the variable's.
+abbrev pub PartsComeFirst : Type 0
+PartsComeFirst = (earlier : List Decl) (p : PatternDecl) → AllByRecursion HasPartsUpTo (expanded earlier p).demands
 
 abbrev pub is_new : Action → ℕ
 is_new (makes (new_operation name o)) = 1

@@ -1,6 +1,6 @@
 //! Laws of the definitions. Each is a call that does nothing and promises the law.
 
-ghost use Rattle.rewrite_model.specs.Laws.{AtMostOneAssignment, MatchesAreDecided, OneRun, ConvergedRunsMatchNowhere, StepsKeepOperandsVisible, RunsKeepOperandsVisible, RewritesKeepLayout, StepsKeepWellFormed, RunsKeepWellFormed, RunsReachTheirEnd, NumbersHavePlaces, SizesBoundOperations, StepsGiveNumbers, StepsKeepLimits, NumbersRise};
+ghost use Rattle.rewrite_model.specs.Laws.{AtMostOneAssignment, MatchesAreDecided, OneRun, ConvergedRunsMatchNowhere, StepsKeepOperandsVisible, RunsKeepOperandsVisible, RewritesKeepLayout, StepsKeepWellFormed, RunsKeepWellFormed, RunsReachTheirEnd, NumbersHavePlaces, PartsComeFirst, SizesBoundOperations, StepsGiveNumbers, StepsKeepLimits, NumbersRise};
 
 /// A pattern whose variables and operation expressions are all determined, and whose lists have at most one range each,
 /// matches at an operation by at most one assignment.
@@ -56,6 +56,11 @@ pub fn runs_reach_their_end()
 /// Each number of a pattern, and of a constraint by itself, has a place in the file.
 pub fn numbers_have_places()
     ensures { NumbersHavePlaces }
+{}
+
+/// The numbers of the parts of an operation are not above its own.
+pub fn parts_come_first()
+    ensures { PartsComeFirst }
 {}
 
 /// A pattern makes at most as many operations as its declaration has operation expressions after expanding.
