@@ -1,0 +1,17 @@
+pub mod Pattern
+pub mod Doing
+pub mod Names
+pub mod MatchPart
+pub mod RewritePart
+pub mod Expanding
+pub mod Size
+pub mod Determined
+pub mod Things
+pub mod Holding
+pub mod Matching
+pub mod Taken
+pub mod Making
+pub mod Step
+pub mod Running
+pub mod LogText
+pub mod Laws
