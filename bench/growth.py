@@ -1,63 +1,69 @@
-"""Shows how time and memory of one run grow with the module.
+"""Shows how time and memory of reading and printing grow with the module, and how both compare with MLIR's own tool.
 
 python3 bench/growth.py PROGRAM [OPERATIONS]
 
 PROGRAM is the built program (`rt run` in crates/pdllrw leaves it as out/pdllrw). Three modules are made, of
-OPERATIONS times 1, 10 and 100 operations (10,000 where it isn't given), one in a hundred of which is erased. A line
-each has the operations, the best of three wall times per operation and the peak memory per operation, and both as
-ratios of those of the first size: a program that is linear keeps both ratios near 1 or below.
+OPERATIONS times 1, 10 and 100 operations (2,000 where it isn't given), and each is read and printed with an empty
+pattern file. A line each has the best of three wall times and the peak memory per operation, and both as ratios of
+those of the first size: a program that is linear keeps both ratios near 1 or below. Where mlir-opt is installed, the
+line also has the program's time and memory as ratios of those of mlir-opt on the same module.
 """
 import os
+import shutil
 import subprocess
 import sys
 import tempfile
 import time
 
-PATTERNS = 'Pattern Erase => erase op<t.gone>;\n'
-
 
 def write_module(path, count):
     with open(path, 'w') as module:
-        for number in range(count):
-            name = 't.gone' if number % 100 == 0 else f't.name{number % 7}'
-            module.write(f'"{name}"() : () -> ()\n')
+        module.write('%0 = "t.start"() {v = 0 : i32} : () -> i32\n')
+        for number in range(1, count):
+            module.write(f'%{number} = "t.op{number % 7}"(%{number - 1}) {{v = {number} : i32}} : (i32) -> i32\n')
 
 
-def measure(program, patterns, module):
-    """Wall seconds and peak kilobytes of one run, which must converge or end at the bound."""
+def measure(words):
+    """Wall seconds and peak bytes of one run, which must succeed."""
     start = time.perf_counter()
     with open(os.devnull, 'w') as nothing:
-        child = subprocess.Popen([program, patterns, module], stdout=nothing, stderr=nothing)
+        child = subprocess.Popen(words, stdout=nothing, stderr=nothing)
         _, status, usage = os.wait4(child.pid, 0)
     seconds = time.perf_counter() - start
     code = os.waitstatus_to_exitcode(status)
-    if code not in (0, 1):
-        raise SystemExit(f'the program ended with status {code}')
-    return seconds, usage.ru_maxrss
+    if code != 0:
+        raise SystemExit(f'{words[0]} ended with status {code}')
+    return seconds, usage.ru_maxrss * 1024
+
+
+def best(words):
+    runs = [measure(words) for _ in range(3)]
+    return min(run[0] for run in runs), min(run[1] for run in runs)
 
 
 def main(words):
     if len(words) not in (1, 2):
         raise SystemExit(__doc__)
     program = os.path.abspath(words[0])
-    base = int(words[1]) if len(words) == 2 else 10_000
+    base = int(words[1]) if len(words) == 2 else 2_000
+    other = next((name for name in ('mlir-opt', 'mlir-opt-14', 'mlir-opt-15') if shutil.which(name)), None)
     first = None
     with tempfile.TemporaryDirectory() as folder:
         patterns = os.path.join(folder, 'patterns.pdll')
-        with open(patterns, 'w') as file:
-            file.write(PATTERNS)
+        open(patterns, 'w').close()
         for factor in (1, 10, 100):
             count = base * factor
             module = os.path.join(folder, f'{count}.mlir')
             write_module(module, count)
-            runs = [measure(program, patterns, module) for _ in range(3)]
-            seconds = min(run[0] for run in runs) / count
-            memory = min(run[1] for run in runs) / count
-            first = first or (seconds, memory)
-            print(f'{count} operations: {seconds * 1e6:.3f} us and {memory * 1024:.0f} bytes each, '
-                  f'ratios {seconds / first[0]:.2f} and {memory / first[1]:.2f}')
+            seconds, memory = best([program, patterns, module])
+            first = first or (seconds / count, memory / count)
+            line = (f'{count} operations: {seconds / count * 1e6:.3f} us and {memory / count:.0f} bytes each, '
+                    f'ratios {seconds / count / first[0]:.2f} and {memory / count / first[1]:.2f}')
+            if other:
+                its = best([other, '--allow-unregistered-dialect', '--mlir-print-op-generic', module])
+                line += f'; against {other} {seconds / its[0]:.2f} and {memory / its[1]:.2f}'
+            print(line)
             os.remove(module)
 
 
-if __name__ == '__main__':
-    main(sys.argv[1:])
+main(sys.argv[1:])

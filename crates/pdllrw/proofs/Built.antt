@@ -8,7 +8,7 @@ use Rattle.pdll_syntax.specs.declared.file.Decl.TheVariants as decl
 use Rattle.pdll_syntax.specs.declared.file.Meta.{Meta}
 use Rattle.pdll_syntax.specs.ExprTree.{Expr, expr, ExprForm, member_expr, Entry, entries}
 use Rattle.pdll_syntax.specs.ExprView.{with_members}
-use Rattle.pdllrw.specs.Patterns.{are_some, if_no_entries, expr_name, Erasing, without_metas, named_erasing, label_text, body_name, pattern_erasing, decl_erasing, erasing_then, all_erasing, are_distinct, if_distinct, built}
+use Rattle.pdllrw.specs.Patterns.{are_some, if_no_entries, expr_name, Erasing, without_metas, named_erasing, label_text, body_name, pattern_erasing, decl_erasing, erasing_then, all_erasing, built}
 use Rattle.std.specs.Prelude.{IfOk}
 use Rattle.pdllrw.specs.Accepted.{AcceptsPatterns}
 use Rattle.pdllrw.specs.Run.{best}
@@ -84,17 +84,9 @@ all_other : (ds : List Decl) (ps : List Erasing) (i : ℕ) → all_erasing ds �
 all_other [] ps i e = let same : [] ≡ ps = cc in ap (λ xs. position_from (λ p. bytes_eq p.op module_name) i xs) (sym same)
 all_other (d ∷ ds) ps i e = then_other (decl_erasing d) None (all_erasing ds) ps i (decl_other d) (λ qs j. all_other ds qs j) e
 
-distinct_other : (o : Option (List Erasing)) (ps : List Erasing) → ((qs : List Erasing) → o ≡ Some qs → NoneNames qs 0) → if_distinct o ≡ Some ps → NoneNames ps 0
-distinct_other None ps all e = absurd (cc)
-distinct_other (Some qs) ps all e = by_test (are_distinct qs) e
-  where
-    by_test : (b : Bool) → cond b (Some qs) None ≡ Some ps → NoneNames ps 0
-    by_test true h = let same : qs ≡ ps = cc in ap (λ xs. position_from (λ p. bytes_eq p.op module_name) 0 xs) (sym same) ∙ all qs refl
-    by_test false h = absurd (cc)
-
 pub never_the_module : (file : PatFile) (ps : List Erasing) → built file ≡ Some ps → best ps (codes "builtin.module") ≡ None
 unfolding built
-never_the_module file ps e = distinct_other (all_erasing file.decls) ps (λ qs h. all_other file.decls qs 0 h) e
+never_the_module file ps e = all_other file.decls ps 0 e
 
 -- patterns that are accepted never name the module
 pub allowed : {A E : Type 0} (patterns : A → List Erasing) (r : Result A E) (bytes : List ℕ) → IfOk r (λ v. AcceptsPatterns (patterns v) bytes) → IfOk r (λ v. best (patterns v) (codes "builtin.module") ≡ None)

@@ -7,6 +7,7 @@ use Rattle.pdll_syntax.specs.declared.file.PatFile.{PatFile}
 use Rattle.pdll_syntax.specs.Faults.{code_text}
 use Rattle.pdll_parser.specs.FileGrammar.{IsPatternFile}
 use Rattle.pdll_parser.specs.Spelling.{is_spelling_fault}
+use Rattle.pdll_types.specs.Accepted.{IsAccepted, first_fault}
 use Rattle.pdllrw.specs.Patterns.{Erasing, built}
 use Rattle.pdllrw.specs.Positions.{position_of}
 use Rattle.pdllrw.specs.declared.position.Position.{Position}
@@ -50,14 +51,33 @@ pub record IsNotSpelled (p : Position) (kind : PatKind) (at : ℕ) (bytes : List
   pub within : at ≤ length bytes
   pub place : p ≡ position_of bytes at
 
-abbrev pub RefusesPatternsAs : Position → PatKind → ℕ → List ℕ → Type 0
-RefusesPatternsAs p pat_kinds.TooLong at bytes = (67108864 < length bytes) × (at ≡ 67108864)
-RefusesPatternsAs p pat_kinds.NotBuilt at bytes = (at ≡ 0) × (length bytes ≤ 67108864) × (file : PatFile) × IsPatternFile bytes file × (built file ≡ None)
-RefusesPatternsAs p kind at bytes = IsNotSpelled p kind at bytes
+-- The file is spelled, and this is the first fault of its names, kinds and parts.
+pub record IsNotAccepted (p : Position) (f : PatFault) (bytes : List ℕ) : Type 0 where
+  pub short : length bytes ≤ 67108864
+  pub file : PatFile
+  pub spelled : IsPatternFile bytes file
+  pub fault : first_fault file ≡ Some f
+  pub place : p ≡ position_of bytes f.at
+
+-- The file is accepted, and some pattern isn't built.
+pub record IsNotBuilt (f : PatFault) (bytes : List ℕ) : Type 0 where
+  pub is_kind : f.kind ≡ pat_kinds.NotBuilt
+  pub place : f.at ≡ 0
+  pub short : length bytes ≤ 67108864
+  pub file : PatFile
+  pub spelled : IsPatternFile bytes file
+  pub accepted : IsAccepted file
+  pub not_built : built file ≡ None
+
+-- The file has too many bytes.
+pub record IsLongFile (f : PatFault) (bytes : List ℕ) : Type 0 where
+  pub is_kind : f.kind ≡ pat_kinds.TooLong
+  pub place : f.at ≡ 67108864
+  pub long : 67108864 < length bytes
 
 -- the bytes are refused with this fault, whose place is on this line and in this column
 abbrev pub RefusesPatterns : Position → PatFault → List ℕ → Type 0
-RefusesPatterns p f bytes = RefusesPatternsAs p f.kind f.at bytes
+RefusesPatterns p f bytes = IsLongFile f bytes ⊎ (IsNotSpelled p f.kind f.at bytes ⊎ (IsNotAccepted p f bytes ⊎ IsNotBuilt f bytes))
 
 -- The same of a module file.
 pub record IsNoModule (p : Position) (kind : ModKind) (at : ℕ) (bytes : List ℕ) : Type 0 where
@@ -76,13 +96,13 @@ pub record IsUnresolved (p : Position) (kind : ModKind) (at : ℕ) (bytes : List
   pub place : p ≡ position_of bytes at
 
 -- The file has too many bytes.
-pub record IsTooLong (f : ModFault) (bytes : List ℕ) : Type 0 where
+pub record IsLongModule (f : ModFault) (bytes : List ℕ) : Type 0 where
   pub is_kind : f.kind ≡ mod_kinds.TooLong
   pub place : f.at ≡ 67108864
   pub long : 67108864 < length bytes
 
 abbrev pub RefusesModule : Position → ModFault → List ℕ → Type 0
-RefusesModule p f bytes = IsTooLong f bytes ⊎ (IsNoModule p f.kind f.at bytes ⊎ IsUnresolved p f.kind f.at bytes)
+RefusesModule p f bytes = IsLongModule f bytes ⊎ (IsNoModule p f.kind f.at bytes ⊎ IsUnresolved p f.kind f.at bytes)
 
 -- a line and a column, and what is wrong there
 abbrev pub placed_line : List ℕ → Position → List ℕ → List ℕ

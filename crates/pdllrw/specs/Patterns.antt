@@ -1,6 +1,5 @@
 -- The patterns that are built: those that erase each operation of one name.
-use Rattle.std.specs.Prelude.{ℕ, Bool, true, false, not, ◌&&◌, if◌then◌else◌, List, [], ◌∷◌, map, codes, Option, Some, None}
-use Rattle.std.specs.List.{list_any}
+use Rattle.std.specs.Prelude.{ℕ, Bool, true, false, if◌then◌else◌, List, [], ◌∷◌, map, codes, Option, Some, None}
 use Rattle.std.specs.Str.{bytes_eq}
 use Rattle.pdll_syntax.specs.declared.name.Name.{Name}
 use Rattle.pdll_syntax.specs.declared.stmt.Body.{Body}
@@ -96,22 +95,6 @@ abbrev pub all_erasing : List Decl → Option (List Erasing)
 all_erasing [] = Some []
 all_erasing (d ∷ ds) = erasing_then (decl_erasing d) (all_erasing ds)
 
-abbrev pub has_label : List ℕ → List Erasing → Bool
-has_label label ps = list_any (λ p. bytes_eq p.label label) ps
-
-abbrev pub is_named : List ℕ → Bool
-is_named [] = false
-is_named (b ∷ bs) = true
-
--- no two have one name; those without a name don't count
-abbrev pub are_distinct : List Erasing → Bool
-are_distinct [] = true
-are_distinct (p ∷ ps) = not (is_named p.label && has_label p.label ps) && are_distinct ps
-
-abbrev pub if_distinct : Option (List Erasing) → Option (List Erasing)
-if_distinct None = None
-if_distinct (Some ps) = if are_distinct ps then Some ps else None
-
--- The patterns of a file, where each declaration is such a pattern and no two have one name.
+-- The patterns of a file, where each declaration is such a pattern.
 unfoldable pub built : PatFile → Option (List Erasing)
-built file = if_distinct (all_erasing file.decls)
+built file = all_erasing file.decls

@@ -156,45 +156,10 @@ fn all_erasing(alloc: Global, decls: &[Decl]) -> Result<Option<Vec<Pattern>>, Al
     Ok(Some(found))
 }
 
-fn is_named(label: &[u8]) -> bool
-    ensures { result ≡ spec.is_named label.now }
-{
-    match label {
-        [] => false,
-        [_, ..] => true,
-    }
-}
-
-fn has_label(patterns: &[Pattern], label: &[u8]) -> bool
-    ensures { result ≡ spec.has_label label.now (views patterns.now) }
-{
-    for p in patterns {
-        if p.label.as_slice() == label {
-            return true;
-        }
-    }
-    false
-}
-
-fn are_distinct(patterns: &[Pattern]) -> bool
-    ensures { result ≡ spec.are_distinct (views patterns.now) }
-{
-    for (i, p) in patterns.iter().enumerate() {
-        if is_named(&p.label) && has_label(&patterns[i + 1..], &p.label) {
-            return false;
-        }
-    }
-    true
-}
-
-/// The patterns of a file, where each declaration erases the operations of one name, which isn't that of a module,
-/// and no two have one name.
+/// The patterns of a file, where each declaration erases the operations of one name, which isn't that of a module.
 #[tactic(auto, unfolding(crate::specs::Patterns::built))]
 pub fn built(alloc: Global, file: &PatFile) -> Result<Option<Vec<Pattern>>, AllocError>
     ensures { IfOk result (λ o. option_map (λ v. views v.items) o ≡ spec.built file.now) }
 {
-    match all_erasing(alloc, file.decls.as_slice())? {
-        Some(patterns) if are_distinct(&patterns) => Ok(Some(patterns)),
-        _ => Ok(None),
-    }
+    all_erasing(alloc, file.decls.as_slice())
 }

@@ -8,6 +8,8 @@ ghost use Rattle.pdllrw.specs.Run.{best};
 ghost use Rattle.mlir_parse.specs.declared.fault.ModFault.{ModFault as ModuleFault};
 ghost use Rattle.pdllrw.specs.Outcome.{RefusesPatterns, RefusesModule};
 ghost use Rattle.mlir_parse.specs.FileGrammar.{IsModuleFile};
+ghost use Rattle.pdll_parser.specs.FileGrammar.{IsPatternFile};
+ghost use Rattle.pdll_types.specs.Accepted.{IsAccepted};
 ghost use Rattle.mlir_parse.specs.Limits.{KeepsLimits};
 ghost use Rattle.pdllrw.specs.declared.status.Status.TheVariants as statuses;
 ghost use Rattle.pdllrw.specs.Accepted.{AcceptsPatterns, AcceptsModule};
@@ -24,6 +26,8 @@ use mlir_tree::refusal::Refusal;
 use mlir_tree::rows::Rows;
 use pdll_parser::parse_patterns;
 use pdll_syntax::fault::{PatFault, PatKind};
+use pdll_types::check;
+use pdll_types::typed::Typed;
 use rw_outside::{Host, TakeErr, take_all};
 use std::alloc::Global;
 
@@ -46,7 +50,7 @@ pub fn placeless(status: Status) -> Stop
     }
 }
 
-fn not_spelled(bytes: &[u8], fault: PatFault) -> Stop
+fn bad_patterns(bytes: &[u8], fault: PatFault) -> Stop
     ensures status { result.status ≡ statuses.PatternFault fault }
     ensures place { result.place ≡ position_of bytes.now fault.at }
 {
@@ -62,18 +66,33 @@ fn pattern_fault(kind: PatKind, at: usize) -> Stop
     placeless(Status::PatternFault(PatFault { kind, at }))
 }
 
+// The file that these bytes spell, which is accepted.
+fn accepted(alloc: Global, bytes: &[u8]) -> Result<Typed, Stop>
+    requires { length bytes.now ≤ 67108864 }
+    ensures spelled { IfOk result (λ typed. IsPatternFile bytes.now typed.file) }
+    ensures accepted { IfOk result (λ typed. IsAccepted typed.file) }
+    ensures stopped { IfErr result (λ stop. (stop.status ≡ statuses.NoMemory) ⊎ ((f : Fault) × (stop.status ≡ statuses.PatternFault f) × RefusesPatterns stop.place f bytes.now)) }
+{
+    let file = match parse_patterns(alloc, bytes) {
+        Ok(file) => file,
+        Err(Refusal::Fault(fault)) => return Err(bad_patterns(bytes, fault)),
+        Err(Refusal::NoMemory) => return Err(placeless(Status::NoMemory)),
+    };
+    match check(alloc, &file) {
+        Ok(typed) => Ok(typed),
+        Err(Refusal::Fault(fault)) => Err(bad_patterns(bytes, fault)),
+        Err(Refusal::NoMemory) => Err(placeless(Status::NoMemory)),
+    }
+}
+
 // The patterns that these bytes spell.
 fn patterns_of(alloc: Global, bytes: &[u8]) -> Result<Vec<Pattern>, Stop>
     requires { length bytes.now ≤ 67108864 }
     ensures found { IfOk result (λ v. AcceptsPatterns (views v.items) bytes.now) }
     ensures stopped { IfErr result (λ stop. (stop.status ≡ statuses.NoMemory) ⊎ ((f : Fault) × (stop.status ≡ statuses.PatternFault f) × RefusesPatterns stop.place f bytes.now)) }
 {
-    let file = match parse_patterns(alloc, bytes) {
-        Ok(file) => file,
-        Err(Refusal::Fault(fault)) => return Err(not_spelled(bytes, fault)),
-        Err(Refusal::NoMemory) => return Err(placeless(Status::NoMemory)),
-    };
-    match built(alloc, &file) {
+    let typed = accepted(alloc, bytes)?;
+    match built(alloc, &typed.file) {
         Ok(Some(patterns)) => Ok(patterns),
         Ok(None) => Err(pattern_fault(PatKind::NotBuilt, 0)),
         Err(_) => Err(placeless(Status::NoMemory)),
@@ -97,7 +116,7 @@ pub fn read_patterns<H: Host>(alloc: Global, host: &mut H, name: &str) -> Result
     patterns_of(alloc, &bytes)
 }
 
-fn no_module(bytes: &[u8], fault: ModFault) -> Stop
+fn bad_module(bytes: &[u8], fault: ModFault) -> Stop
     ensures status { result.status ≡ statuses.ModuleFault fault }
     ensures place { result.place ≡ position_of bytes.now fault.at }
 {
@@ -122,7 +141,7 @@ fn tree_of(alloc: Global, bytes: &[u8]) -> Result<Syn, Stop>
 {
     match parse_module(alloc, bytes) {
         Ok(file) => Ok(file),
-        Err(Refusal::Fault(fault)) => Err(no_module(bytes, fault)),
+        Err(Refusal::Fault(fault)) => Err(bad_module(bytes, fault)),
         Err(Refusal::NoMemory) => Err(placeless(Status::NoMemory)),
     }
 }
@@ -138,7 +157,7 @@ fn rows_of(alloc: Global, bytes: &[u8]) -> Result<Rows, Stop>
     let file = tree_of(alloc, bytes)?;
     match resolve(alloc, &file) {
         Ok(rows) => Ok(rows),
-        Err(Refusal::Fault(fault)) => Err(no_module(bytes, fault)),
+        Err(Refusal::Fault(fault)) => Err(bad_module(bytes, fault)),
         Err(Refusal::NoMemory) => Err(placeless(Status::NoMemory)),
     }
 }

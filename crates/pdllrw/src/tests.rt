@@ -242,7 +242,7 @@ fn pattern_files_are_refused(rt: HostRuntime) -> Result<(), Fail> {
     assert!(rt;
         refuses_patterns(
             alloc,
-            b"Constraint Any(a: Attr);",
+            b"Pattern => erase op<t.a>();",
             b"pdllrw: patterns: P0 NotBuilt\n"
         )?
     );
@@ -250,7 +250,7 @@ fn pattern_files_are_refused(rt: HostRuntime) -> Result<(), Fail> {
         refuses_patterns(
             alloc,
             b"Pattern A => erase op<t.a>;\nPattern A => erase op<t.b>;",
-            b"pdllrw: patterns: P0 NotBuilt\n"
+            b"pdllrw: patterns: 2:9: P11 Redefined\n"
         )?
     );
     assert!(rt;
@@ -265,6 +265,20 @@ fn pattern_files_are_refused(rt: HostRuntime) -> Result<(), Fail> {
             alloc,
             b"Pattern A with benefit(65535) => erase op<t.a>;",
             b"pdllrw: patterns: 1:24: P9 BenefitRange\n"
+        )?
+    );
+    assert!(rt;
+        refuses_patterns(
+            alloc,
+            b"Constraint Foo(v: Value);",
+            b"pdllrw: patterns: 1:12: P14 UnknownNative\n"
+        )?
+    );
+    assert!(rt;
+        refuses_patterns(
+            alloc,
+            b"Pattern { let x: Value = x; erase op<t.a>(x); }",
+            b"pdllrw: patterns: 1:26: P10 Undefined\n"
         )?
     );
     Ok(())

@@ -7,4 +7,4 @@ returns-in-Err-Fault-clause-stopped c =
     let f = c.in-Err-Fault.fault in
     let is = ap Err c.in-Err-Fault.field-0-is in
     let ensured = c.in-Err-Fault.ensures in
-    inr (f, cc (c.no_module.ensures.status, c.in-Err-Fault.fault-is), module_refused c.args.bytes.now c.no_module.result.place f (ensured.kinds f is) c.requires (ensured.not_spelled f is) (ensured.within f is) (cc (c.no_module.ensures.place, c.in-Err-Fault.fault-is)))
+    inr (f, cc (c.bad_module.ensures.status, c.in-Err-Fault.fault-is), module_refused c.args.bytes.now c.bad_module.result.place f (ensured.kinds f is) c.requires (ensured.not_spelled f is) (ensured.within f is) (cc (c.bad_module.ensures.place, c.in-Err-Fault.fault-is)))

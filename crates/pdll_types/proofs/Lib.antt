@@ -1,0 +1,12 @@
+pub mod Examples
+pub mod FirstRef
+pub mod Fresh
+pub mod Law
+pub mod Least
+pub mod Loops
+pub mod Maps
+pub mod Members
+pub mod Noting
+pub mod Steps
+pub mod Utf8
+pub mod WholeFiles

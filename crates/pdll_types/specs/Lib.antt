@@ -1,0 +1,13 @@
+pub mod Kinds
+pub mod Signatures
+pub mod Mentions
+pub mod Sight
+pub mod Names
+pub mod KindFaults
+pub mod Parts
+pub mod Literals
+pub mod Accepted
+pub mod Codes
+pub mod Asking
+pub mod Walk
+pub mod Judged
