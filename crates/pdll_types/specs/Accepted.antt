@@ -122,12 +122,16 @@ abbrev pub first_of_faults : List PatFault → Option PatFault
 first_of_faults [] = None
 first_of_faults (f ∷ fs) = first_with f (first_of_faults fs)
 
+-- The first fault of a declaration.
+abbrev pub decl_fault : List Declared → Decl → Option PatFault
+decl_fault c d = first_of_faults (faults_of c d)
+
 -- ---- declarations one behind the other
 
 -- The first fault of the first declaration that has one.
 abbrev pub first_fault_of : List Declared → List Decl → Option PatFault
 first_fault_of c [] = None
-first_fault_of c (d ∷ ds) = option_or (first_of_faults (faults_of c d)) (first_fault_of (declared c d) ds)
+first_fault_of c (d ∷ ds) = option_or (decl_fault c d) (first_fault_of (declared c d) ds)
 
 -- The kind of the expression that is used.
 abbrev pub kind_at : List Declared → Seen → Mention → List Kind

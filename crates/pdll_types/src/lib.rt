@@ -1,7 +1,7 @@
 //! Names, kinds and parts of a pattern file: whether it is accepted, and the kinds of its expressions.
 #![tactic(auto)]
 
-pub mod asked;
+mod asked;
 mod declarations;
 mod expressions;
 mod files;
@@ -11,13 +11,15 @@ mod literals;
 mod marks;
 mod natives;
 mod refs;
-pub mod section;
-pub mod sight;
-pub mod signature;
+mod section;
+mod sight;
+mod signature;
 mod statements;
-pub mod table;
+mod table;
+#[cfg(test)]
+mod tests;
 pub mod typed;
 mod uses;
-pub mod walk;
+mod walk;
 
 pub use files::check;

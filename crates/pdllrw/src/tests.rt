@@ -1,5 +1,9 @@
 use crate::run;
 use crate::status::{BoundKind, Status};
+use mlir_parse::parse_module;
+use mlir_print::{number, print_rows};
+use mlir_resolve::resolve;
+use mlir_tree::rows::Rows;
 use rw_outside::{MemHost, MemSink, SureHost, SureSink};
 use std::alloc::{AllocError, Global};
 use std::test::Fail;
@@ -141,6 +145,50 @@ fn values_are_numbered(rt: HostRuntime) -> Result<(), Fail> {
             alloc,
             b"%p:2 = \"t.p\"() ({\n^bb0(%a: i1, %b: i8):\n  \"t.u\"(%b, %a) : (i8, i1) -> ()\n}, {}) : () -> (i32, i32)\n\"t.v\"(%p#1) {\"x y\", s = \"a\\22\\0A\", m = @f::@\"g h\", l = [unit, {k}]} : (i32) -> ()\n",
             b"\"builtin.module\"() ({\n  %0:2 = \"t.p\"() ({\n  ^bb0(%arg0: i1, %arg1: i8):\n    \"t.u\"(%arg1, %arg0) : (i8, i1) -> ()\n  }, {}) : () -> (i32, i32)\n  \"t.v\"(%0#1) {l = [unit, {k}], m = @f::@\"g h\", s = \"a\\22\\0A\", \"x y\"} : (i32) -> ()\n}) : () -> ()\n"
+        )?
+    );
+    Ok(())
+}
+
+fn rows_of(alloc: Global, text: &[u8]) -> Option<Rows> {
+    let Ok(file) = parse_module(alloc, text) else {
+        return None;
+    };
+    resolve(alloc, &file).ok()
+}
+
+// Whether the rows of a module are those of its printed text.
+fn reads_back(alloc: Global, text: &[u8]) -> Result<bool, AllocError> {
+    let Ok(file) = parse_module(alloc, text) else {
+        return Ok(false);
+    };
+    let Ok(rows) = resolve(alloc, &file) else {
+        return Ok(false);
+    };
+    let numbers = number(alloc, &rows)?;
+    let mut sink = MemSink::new(alloc, ROOM)?;
+    if print_rows(&rows, &numbers, &mut sink).is_err() {
+        return Ok(false);
+    }
+    match rows_of(alloc, sink.bytes()) {
+        Some(again) => Ok(again.equal(&rows)),
+        None => Ok(false),
+    }
+}
+
+#[test]
+fn what_is_printed_reads_back(rt: HostRuntime) -> Result<(), Fail> {
+    let alloc = rt.alloc();
+    assert!(rt;
+        reads_back(
+            alloc,
+            b"#map = affine_map<(d0) -> (d0 + 1)>\n\"builtin.module\"() ({\n  \"func.func\"() <{function_type = (i32) -> i32, sym_name = \"f\", sym_visibility = \"private\"}> ({\n  }) : () -> () loc(#loc1)\n  %0 = \"arith.constant\"() <{value = dense<[1, 2]> : tensor<2xi32>}> : () -> tensor<2xi32>\n  \"t.m\"() {map = #map, t = memref<4xf32, #map>} : () -> ()\n}) : () -> ()\n#loc1 = loc(\"x.mlir\":1:1)\n"
+        )?
+    );
+    assert!(rt;
+        reads_back(
+            alloc,
+            b"\"builtin.module\"() ({\n%p:2, %q = \"t.p\"() <{a = \"x\" : i8, \"b c\" = @f::@\"g h\"}> ({\n^l(%a: i1, %b: !t.s<[ \">\" ]>):\n\"t.u\"(%b, %a) {d = {k, e = [1 : ui8, -1 : si8, true]}} : (!t.s<[ \">\" ]>, i1) -> ()\n%r = \"t.w\"() ({\"t.x\"(%a) : (i1) -> ()}) : () -> (() -> i8)\n}, {}) {s = \"\\22\\5C\\0A\\FF\", t = dense<[1, 2]> : tensor<2xi32>, u = #t.a<{}> : f32, v = 0x7F : f32} : () -> (i32, index, i0)\n\"t.\\61 b\"(%q, %p#1) : (i0, index) -> ()\n}) : () -> ()\n"
         )?
     );
     Ok(())
