@@ -42,45 +42,52 @@ fn words(alloc: Global, texts: &[&str]) -> Result<Vec<String>, AllocError> {
     Ok(words)
 }
 
-// Whether a run over files in memory ends with this code, and with these bytes in both sinks.
-fn ends(
+// The code with which a run over files in memory ends, where both sinks have these bytes then.
+fn code_of(
     alloc: Global,
     words: &[String],
     patterns: &[u8],
     module: &[u8],
-    code: u8,
     out: &[u8],
     log: &[u8],
-) -> Result<bool, AllocError> {
+) -> Result<Option<u8>, AllocError> {
     let mut host = MemHost::new(files(alloc, patterns, module)?, 4096, Vec::new(alloc));
     let mut taken = MemSink::new(alloc, ROOM)?;
     let mut told = MemSink::new(alloc, ROOM)?;
     let status = run(alloc, words, &mut host, &mut taken, &mut told);
-    Ok(status.code() == code && taken.bytes() == out && told.bytes() == log)
+    if taken.bytes() == out && told.bytes() == log {
+        Ok(Some(status.code()))
+    } else {
+        Ok(None)
+    }
 }
 
-// The same of the two files.
-fn gives(
+// Whether a run with these words ends so.
+fn ends(
     alloc: Global,
+    texts: &[&str],
     patterns: &[u8],
     module: &[u8],
     code: u8,
     out: &[u8],
     log: &[u8],
-) -> Result<bool, AllocError> {
-    ends(
-        alloc,
-        &words(alloc, &["p", "m"])?,
-        patterns,
-        module,
-        code,
-        out,
-        log,
-    )
+) -> bool {
+    let Ok(words) = words(alloc, texts) else {
+        return false;
+    };
+    match code_of(alloc, &words, patterns, module, out, log) {
+        Ok(found) => found == Some(code),
+        Err(_) => false,
+    }
+}
+
+// The same of the two files.
+fn gives(alloc: Global, patterns: &[u8], module: &[u8], code: u8, out: &[u8], log: &[u8]) -> bool {
+    ends(alloc, &["p", "m"], patterns, module, code, out, log)
 }
 
 // Whether a module is printed so, without patterns.
-fn prints(alloc: Global, module: &[u8], out: &[u8]) -> Result<bool, AllocError> {
+fn prints(alloc: Global, module: &[u8], out: &[u8]) -> bool {
     gives(
         alloc,
         b"",
@@ -91,63 +98,72 @@ fn prints(alloc: Global, module: &[u8], out: &[u8]) -> Result<bool, AllocError> 
     )
 }
 
+// This text between two others.
+fn between(alloc: Global, front: &[u8], text: &[u8], back: &[u8]) -> Result<Vec<u8>, AllocError> {
+    let mut all = Vec::from_slice(alloc, front)?;
+    all.extend_from_slice(text)?;
+    all.extend_from_slice(back)?;
+    Ok(all)
+}
+
+const ENTRY: &[u8] = b"\"t.a\"() {v = ";
+
+const PRINTED: &[u8] = b"\"builtin.module\"() ({\n  \"t.a\"() {v = ";
+
 // Whether an operation with one entry `v` is printed with this text in its place.
-fn prints_entry(alloc: Global, value: &[u8], printed: &[u8]) -> Result<bool, AllocError> {
-    let mut module = Vec::from_slice(alloc, b"\"t.a\"() {v = ")?;
-    module.extend_from_slice(value)?;
-    module.extend_from_slice(b"} : () -> ()\n")?;
-    let mut out = Vec::from_slice(alloc, b"\"builtin.module\"() ({\n  \"t.a\"() {v = ")?;
-    out.extend_from_slice(printed)?;
-    out.extend_from_slice(b"} : () -> ()\n}) : () -> ()\n")?;
+fn prints_entry(alloc: Global, value: &[u8], printed: &[u8]) -> bool {
+    let Ok(module) = between(alloc, ENTRY, value, b"} : () -> ()\n") else {
+        return false;
+    };
+    let Ok(out) = between(alloc, PRINTED, printed, b"} : () -> ()\n}) : () -> ()\n") else {
+        return false;
+    };
     prints(alloc, module.as_slice(), out.as_slice())
 }
 
 // Whether a module is refused with this line.
-fn refuses(alloc: Global, module: &[u8], line: &[u8]) -> Result<bool, AllocError> {
+fn refuses(alloc: Global, module: &[u8], line: &[u8]) -> bool {
     gives(alloc, b"", module, 4, b"", line)
 }
 
 // Whether a pattern file is refused with this line.
-fn refuses_patterns(alloc: Global, patterns: &[u8], line: &[u8]) -> Result<bool, AllocError> {
+fn refuses_patterns(alloc: Global, patterns: &[u8], line: &[u8]) -> bool {
     gives(alloc, patterns, MODULE, 3, b"", line)
 }
 
-fn is_wrong_usage(alloc: Global, texts: &[&str]) -> Result<bool, AllocError> {
-    ends(alloc, &words(alloc, texts)?, PATTERN, MODULE, 2, b"", USAGE)
+fn is_wrong_usage(alloc: Global, texts: &[&str]) -> bool {
+    ends(alloc, texts, PATTERN, MODULE, 2, b"", USAGE)
 }
 
-#[test]
-fn modules_are_printed(rt: HostRuntime) -> Result<(), Fail> {
-    let alloc = rt.alloc();
-    assert!(rt;
-        prints(
-            alloc,
-            b"\"t.a\"() : () -> ()",
-            b"\"builtin.module\"() ({\n  \"t.a\"() : () -> ()\n}) : () -> ()\n"
-        )?
-    );
-    assert!(rt; prints(alloc, b"", b"\"builtin.module\"() ({}) : () -> ()\n")?);
-    assert!(rt;
-        prints(
+fn modules_print(alloc: Global) -> bool {
+    prints(
+        alloc,
+        b"\"t.a\"() : () -> ()",
+        b"\"builtin.module\"() ({\n  \"t.a\"() : () -> ()\n}) : () -> ()\n",
+    ) && prints(alloc, b"", b"\"builtin.module\"() ({}) : () -> ()\n")
+        && prints(
             alloc,
             b"#map = affine_map<(d0) -> (d0 + 1)>\n\"builtin.module\"() ({\n  \"func.func\"() <{function_type = (i32) -> i32, sym_name = \"f\", sym_visibility = \"private\"}> ({\n  }) : () -> () loc(#loc1)\n  %0 = \"arith.constant\"() <{value = dense<[1, 2]> : tensor<2xi32>}> : () -> tensor<2xi32>\n  \"t.m\"() {map = #map, t = memref<4xf32, #map>} : () -> ()\n}) : () -> ()\n#loc1 = loc(\"x.mlir\":1:1)\n",
-            b"\"builtin.module\"() ({\n  \"func.func\"() <{function_type = (i32) -> i32, sym_name = \"f\", sym_visibility = \"private\"}> ({}) : () -> ()\n  %0 = \"arith.constant\"() <{value = dense<[1, 2]> : tensor<2xi32>}> : () -> tensor<2xi32>\n  \"t.m\"() {map = affine_map<(d0) -> (d0 + 1)>, t = memref<4xf32, affine_map<(d0) -> (d0 + 1)>>} : () -> ()\n}) : () -> ()\n"
-        )?
-    );
-    Ok(())
+            b"\"builtin.module\"() ({\n  \"func.func\"() <{function_type = (i32) -> i32, sym_name = \"f\", sym_visibility = \"private\"}> ({}) : () -> ()\n  %0 = \"arith.constant\"() <{value = dense<[1, 2]> : tensor<2xi32>}> : () -> tensor<2xi32>\n  \"t.m\"() {map = affine_map<(d0) -> (d0 + 1)>, t = memref<4xf32, affine_map<(d0) -> (d0 + 1)>>} : () -> ()\n}) : () -> ()\n",
+        )
 }
 
 #[test]
-fn values_are_numbered(rt: HostRuntime) -> Result<(), Fail> {
-    let alloc = rt.alloc();
-    assert!(rt;
-        prints(
-            alloc,
-            b"%p:2 = \"t.p\"() ({\n^bb0(%a: i1, %b: i8):\n  \"t.u\"(%b, %a) : (i8, i1) -> ()\n}, {}) : () -> (i32, i32)\n\"t.v\"(%p#1) {\"x y\", s = \"a\\22\\0A\", m = @f::@\"g h\", l = [unit, {k}]} : (i32) -> ()\n",
-            b"\"builtin.module\"() ({\n  %0:2 = \"t.p\"() ({\n  ^bb0(%arg0: i1, %arg1: i8):\n    \"t.u\"(%arg1, %arg0) : (i8, i1) -> ()\n  }, {}) : () -> (i32, i32)\n  \"t.v\"(%0#1) {l = [unit, {k}], m = @f::@\"g h\", s = \"a\\22\\0A\", \"x y\"} : (i32) -> ()\n}) : () -> ()\n"
-        )?
-    );
-    Ok(())
+fn modules_are_printed(rt: HostRuntime) {
+    assert!(rt; modules_print(rt.alloc()));
+}
+
+fn values_print(alloc: Global) -> bool {
+    prints(
+        alloc,
+        b"%p:2 = \"t.p\"() ({\n^bb0(%a: i1, %b: i8):\n  \"t.u\"(%b, %a) : (i8, i1) -> ()\n}, {}) : () -> (i32, i32)\n\"t.v\"(%p#1) {\"x y\", s = \"a\\22\\0A\", m = @f::@\"g h\", l = [unit, {k}]} : (i32) -> ()\n",
+        b"\"builtin.module\"() ({\n  %0:2 = \"t.p\"() ({\n  ^bb0(%arg0: i1, %arg1: i8):\n    \"t.u\"(%arg1, %arg0) : (i8, i1) -> ()\n  }, {}) : () -> (i32, i32)\n  \"t.v\"(%0#1) {l = [unit, {k}], m = @f::@\"g h\", s = \"a\\22\\0A\", \"x y\"} : (i32) -> ()\n}) : () -> ()\n",
+    )
+}
+
+#[test]
+fn values_are_numbered(rt: HostRuntime) {
+    assert!(rt; values_print(rt.alloc()));
 }
 
 fn rows_of(alloc: Global, text: &[u8]) -> Option<Rows> {
@@ -158,7 +174,7 @@ fn rows_of(alloc: Global, text: &[u8]) -> Option<Rows> {
 }
 
 // Whether the rows of a module are those of its printed text.
-fn reads_back(alloc: Global, text: &[u8]) -> Result<bool, AllocError> {
+fn is_read_back(alloc: Global, text: &[u8]) -> Result<bool, AllocError> {
     let Ok(file) = parse_module(alloc, text) else {
         return Ok(false);
     };
@@ -176,252 +192,212 @@ fn reads_back(alloc: Global, text: &[u8]) -> Result<bool, AllocError> {
     }
 }
 
-#[test]
-fn what_is_printed_reads_back(rt: HostRuntime) -> Result<(), Fail> {
-    let alloc = rt.alloc();
-    assert!(rt;
-        reads_back(
-            alloc,
-            b"#map = affine_map<(d0) -> (d0 + 1)>\n\"builtin.module\"() ({\n  \"func.func\"() <{function_type = (i32) -> i32, sym_name = \"f\", sym_visibility = \"private\"}> ({\n  }) : () -> () loc(#loc1)\n  %0 = \"arith.constant\"() <{value = dense<[1, 2]> : tensor<2xi32>}> : () -> tensor<2xi32>\n  \"t.m\"() {map = #map, t = memref<4xf32, #map>} : () -> ()\n}) : () -> ()\n#loc1 = loc(\"x.mlir\":1:1)\n"
-        )?
-    );
-    assert!(rt;
-        reads_back(
-            alloc,
-            b"\"builtin.module\"() ({\n%p:2, %q = \"t.p\"() <{a = \"x\" : i8, \"b c\" = @f::@\"g h\"}> ({\n^l(%a: i1, %b: !t.s<[ \">\" ]>):\n\"t.u\"(%b, %a) {d = {k, e = [1 : ui8, -1 : si8, true]}} : (!t.s<[ \">\" ]>, i1) -> ()\n%r = \"t.w\"() ({\"t.x\"(%a) : (i1) -> ()}) : () -> (() -> i8)\n}, {}) {s = \"\\22\\5C\\0A\\FF\", t = dense<[1, 2]> : tensor<2xi32>, u = #t.a<{}> : f32, v = 0x7F : f32} : () -> (i32, index, i0)\n\"t.\\61 b\"(%q, %p#1) : (i0, index) -> ()\n}) : () -> ()\n"
-        )?
-    );
-    Ok(())
+fn reads_back(alloc: Global, text: &[u8]) -> bool {
+    matches!(is_read_back(alloc, text), Ok(true))
+}
+
+fn all_read_back(alloc: Global) -> bool {
+    reads_back(
+        alloc,
+        b"#map = affine_map<(d0) -> (d0 + 1)>\n\"builtin.module\"() ({\n  \"func.func\"() <{function_type = (i32) -> i32, sym_name = \"f\", sym_visibility = \"private\"}> ({\n  }) : () -> () loc(#loc1)\n  %0 = \"arith.constant\"() <{value = dense<[1, 2]> : tensor<2xi32>}> : () -> tensor<2xi32>\n  \"t.m\"() {map = #map, t = memref<4xf32, #map>} : () -> ()\n}) : () -> ()\n#loc1 = loc(\"x.mlir\":1:1)\n",
+    ) && reads_back(
+        alloc,
+        b"\"builtin.module\"() ({\n%p:2, %q = \"t.p\"() <{a = \"x\" : i8, \"b c\" = @f::@\"g h\"}> ({\n^l(%a: i1, %b: !t.s<[ \">\" ]>):\n\"t.u\"(%b, %a) {d = {k, e = [1 : ui8, -1 : si8, true]}} : (!t.s<[ \">\" ]>, i1) -> ()\n%r = \"t.w\"() ({\"t.x\"(%a) : (i1) -> ()}) : () -> (() -> i8)\n}, {}) {s = \"\\22\\5C\\0A\\FF\", t = dense<[1, 2]> : tensor<2xi32>, u = #t.a<{}> : f32, v = 0x7F : f32} : () -> (i32, index, i0)\n\"t.\\61 b\"(%q, %p#1) : (i0, index) -> ()\n}) : () -> ()\n",
+    )
 }
 
 #[test]
-fn numbers_are_printed_as_their_types_keep_them(rt: HostRuntime) -> Result<(), Fail> {
-    let alloc = rt.alloc();
-    assert!(rt; prints_entry(alloc, b"255 : i8", b"-1 : i8")?);
-    assert!(rt; prints_entry(alloc, b"-128 : i8", b"-128 : i8")?);
-    assert!(rt; prints_entry(alloc, b"1 : i1", b"true")?);
-    assert!(rt; prints_entry(alloc, b"1 : ui1", b"1 : ui1")?);
-    assert!(rt; prints_entry(alloc, b"7", b"7 : i64")?);
-    assert!(rt; prints_entry(alloc, b"1.5 : f32", b"1.5 : f32")?);
-    Ok(())
+fn what_is_printed_reads_back(rt: HostRuntime) {
+    assert!(rt; all_read_back(rt.alloc()));
+}
+
+fn numbers_print(alloc: Global) -> bool {
+    prints_entry(alloc, b"255 : i8", b"-1 : i8")
+        && prints_entry(alloc, b"-128 : i8", b"-128 : i8")
+        && prints_entry(alloc, b"1 : i1", b"true")
+        && prints_entry(alloc, b"1 : ui1", b"1 : ui1")
+        && prints_entry(alloc, b"7", b"7 : i64")
+        && prints_entry(alloc, b"1.5 : f32", b"1.5 : f32")
 }
 
 #[test]
-fn operations_are_erased(rt: HostRuntime) -> Result<(), Fail> {
-    let alloc = rt.alloc();
-    assert!(rt;
-        gives(
-            alloc,
-            PATTERN,
-            MODULE,
-            0,
-            b"\"builtin.module\"() ({\n  \"t.b\"() : () -> ()\n}) : () -> ()\n",
-            b"pdllrw-log 1\nstep 1 pattern 0 \"A\" root 1 made - removed 1\nstep 2 pattern 0 \"A\" root 3 made - removed 3\nend converged steps 2\n"
-        )?
-    );
-    assert!(rt;
-        gives(
-            alloc,
-            b"// both\nPattern { erase op<t.a> {}; }\nPattern B => erase op<t.b>;",
-            MODULE,
-            0,
-            b"\"builtin.module\"() ({}) : () -> ()\n",
-            b"pdllrw-log 1\nstep 1 pattern 0 \"\" root 1 made - removed 1\nstep 2 pattern 1 \"B\" root 2 made - removed 2\nstep 3 pattern 0 \"\" root 3 made - removed 3\nend converged steps 3\n"
-        )?
-    );
-    Ok(())
+fn numbers_are_printed_as_their_types_keep_them(rt: HostRuntime) {
+    assert!(rt; numbers_print(rt.alloc()));
+}
+
+fn erases(alloc: Global) -> bool {
+    gives(
+        alloc,
+        PATTERN,
+        MODULE,
+        0,
+        b"\"builtin.module\"() ({\n  \"t.b\"() : () -> ()\n}) : () -> ()\n",
+        b"pdllrw-log 1\nstep 1 pattern 0 \"A\" root 1 made - removed 1\nstep 2 pattern 0 \"A\" root 3 made - removed 3\nend converged steps 2\n",
+    ) && gives(
+        alloc,
+        b"// both\nPattern { erase op<t.a> {}; }\nPattern B => erase op<t.b>;",
+        MODULE,
+        0,
+        b"\"builtin.module\"() ({}) : () -> ()\n",
+        b"pdllrw-log 1\nstep 1 pattern 0 \"\" root 1 made - removed 1\nstep 2 pattern 1 \"B\" root 2 made - removed 2\nstep 3 pattern 0 \"\" root 3 made - removed 3\nend converged steps 3\n",
+    )
 }
 
 #[test]
-fn inner_operations_go_too(rt: HostRuntime) -> Result<(), Fail> {
-    let alloc = rt.alloc();
-    assert!(rt;
-        gives(
-            alloc,
-            PATTERN,
-            b"\"t.a\"() ({\n  %0 = \"t.b\"() : () -> i1\n  \"t.a\"(%0) : (i1) -> ()\n}) : () -> ()\n\"t.c\"() : () -> ()\n",
-            0,
-            b"\"builtin.module\"() ({\n  \"t.c\"() : () -> ()\n}) : () -> ()\n",
-            b"pdllrw-log 1\nstep 1 pattern 0 \"A\" root 1 made - removed 1,2,3\nend converged steps 1\n"
-        )?
-    );
-    Ok(())
+fn operations_are_erased(rt: HostRuntime) {
+    assert!(rt; erases(rt.alloc()));
+}
+
+fn erases_inside(alloc: Global) -> bool {
+    gives(
+        alloc,
+        PATTERN,
+        b"\"t.a\"() ({\n  %0 = \"t.b\"() : () -> i1\n  \"t.a\"(%0) : (i1) -> ()\n}) : () -> ()\n\"t.c\"() : () -> ()\n",
+        0,
+        b"\"builtin.module\"() ({\n  \"t.c\"() : () -> ()\n}) : () -> ()\n",
+        b"pdllrw-log 1\nstep 1 pattern 0 \"A\" root 1 made - removed 1,2,3\nend converged steps 1\n",
+    )
 }
 
 #[test]
-fn a_use_of_a_removed_operation_breaks_the_step(rt: HostRuntime) -> Result<(), Fail> {
-    let alloc = rt.alloc();
-    assert!(rt;
-        gives(
-            alloc,
-            PATTERN,
-            b"%0 = \"t.a\"() : () -> i32\n\"t.u\"(%0) : (i32) -> ()\n",
-            5,
-            b"\"builtin.module\"() ({\n  %0 = \"t.a\"() : () -> i32\n  \"t.u\"(%0) : (i32) -> ()\n}) : () -> ()\n",
-            b"pdllrw-log 1\nend broken steps 0 pattern 0 root 1 bad-use row 2 place 0\n"
-        )?
-    );
-    assert!(rt;
-        gives(
-            alloc,
-            PATTERN,
-            b"\"t.a\"() : () -> ()\n%0 = \"t.a\"() : () -> i32\n\"t.v\"() ({\n  \"t.u\"(%0, %0) : (i32, i32) -> ()\n}) : () -> ()\n",
-            5,
-            b"\"builtin.module\"() ({\n  %0 = \"t.a\"() : () -> i32\n  \"t.v\"() ({\n    \"t.u\"(%0, %0) : (i32, i32) -> ()\n  }) : () -> ()\n}) : () -> ()\n",
-            b"pdllrw-log 1\nstep 1 pattern 0 \"A\" root 1 made - removed 1\nend broken steps 1 pattern 0 root 2 bad-use row 4 place 0\n"
-        )?
-    );
-    Ok(())
+fn inner_operations_go_too(rt: HostRuntime) {
+    assert!(rt; erases_inside(rt.alloc()));
+}
+
+fn breaks(alloc: Global) -> bool {
+    gives(
+        alloc,
+        PATTERN,
+        b"%0 = \"t.a\"() : () -> i32\n\"t.u\"(%0) : (i32) -> ()\n",
+        5,
+        b"\"builtin.module\"() ({\n  %0 = \"t.a\"() : () -> i32\n  \"t.u\"(%0) : (i32) -> ()\n}) : () -> ()\n",
+        b"pdllrw-log 1\nend broken steps 0 pattern 0 root 1 bad-use row 2 place 0\n",
+    ) && gives(
+        alloc,
+        PATTERN,
+        b"\"t.a\"() : () -> ()\n%0 = \"t.a\"() : () -> i32\n\"t.v\"() ({\n  \"t.u\"(%0, %0) : (i32, i32) -> ()\n}) : () -> ()\n",
+        5,
+        b"\"builtin.module\"() ({\n  %0 = \"t.a\"() : () -> i32\n  \"t.v\"() ({\n    \"t.u\"(%0, %0) : (i32, i32) -> ()\n  }) : () -> ()\n}) : () -> ()\n",
+        b"pdllrw-log 1\nstep 1 pattern 0 \"A\" root 1 made - removed 1\nend broken steps 1 pattern 0 root 2 bad-use row 4 place 0\n",
+    )
 }
 
 #[test]
-fn wrong_words_are_refused(rt: HostRuntime) -> Result<(), Fail> {
-    let alloc = rt.alloc();
-    assert!(rt; is_wrong_usage(alloc, &[])?);
-    assert!(rt; is_wrong_usage(alloc, &["p"])?);
-    assert!(rt; is_wrong_usage(alloc, &["p", "m", "m"])?);
-    assert!(rt; is_wrong_usage(alloc, &["p", "-m"])?);
-    Ok(())
+fn a_use_of_a_removed_operation_breaks_the_step(rt: HostRuntime) {
+    assert!(rt; breaks(rt.alloc()));
+}
+
+fn words_are_refused(alloc: Global) -> bool {
+    is_wrong_usage(alloc, &[])
+        && is_wrong_usage(alloc, &["p"])
+        && is_wrong_usage(alloc, &["p", "m", "m"])
+        && is_wrong_usage(alloc, &["p", "-m"])
 }
 
 #[test]
-fn pattern_files_are_refused(rt: HostRuntime) -> Result<(), Fail> {
-    let alloc = rt.alloc();
-    assert!(rt;
-        refuses_patterns(
-            alloc,
-            b"Pattern => erase op<t.a>();",
-            b"pdllrw: patterns: P0 NotBuilt\n"
-        )?
-    );
-    assert!(rt;
-        refuses_patterns(
-            alloc,
-            b"Pattern A => erase op<t.a>;\nPattern A => erase op<t.b>;",
-            b"pdllrw: patterns: 2:9: P11 Redefined\n"
-        )?
-    );
-    assert!(rt;
-        refuses_patterns(
-            alloc,
-            b"// one\nPattern A =>\n  erase op<t.a>.x;\n",
-            b"pdllrw: patterns: 3:17: P5 Syntax\n"
-        )?
-    );
-    assert!(rt;
-        refuses_patterns(
-            alloc,
-            b"Pattern A with benefit(65535) => erase op<t.a>;",
-            b"pdllrw: patterns: 1:24: P9 BenefitRange\n"
-        )?
-    );
-    assert!(rt;
-        refuses_patterns(
-            alloc,
-            b"Constraint Foo(v: Value);",
-            b"pdllrw: patterns: 1:12: P14 UnknownNative\n"
-        )?
-    );
-    assert!(rt;
-        refuses_patterns(
-            alloc,
-            b"Pattern { let x: Value = x; erase op<t.a>(x); }",
-            b"pdllrw: patterns: 1:26: P10 Undefined\n"
-        )?
-    );
-    Ok(())
+fn wrong_words_are_refused(rt: HostRuntime) {
+    assert!(rt; words_are_refused(rt.alloc()));
+}
+
+fn patterns_are_refused(alloc: Global) -> bool {
+    refuses_patterns(
+        alloc,
+        b"Pattern => erase op<t.a>();",
+        b"pdllrw: patterns: P0 NotBuilt\n",
+    ) && refuses_patterns(
+        alloc,
+        b"Pattern A => erase op<t.a>;\nPattern A => erase op<t.b>;",
+        b"pdllrw: patterns: 2:9: P11 Redefined\n",
+    ) && refuses_patterns(
+        alloc,
+        b"// one\nPattern A =>\n  erase op<t.a>.x;\n",
+        b"pdllrw: patterns: 3:17: P5 Syntax\n",
+    ) && refuses_patterns(
+        alloc,
+        b"Pattern A with benefit(65535) => erase op<t.a>;",
+        b"pdllrw: patterns: 1:24: P9 BenefitRange\n",
+    ) && refuses_patterns(
+        alloc,
+        b"Constraint Foo(v: Value);",
+        b"pdllrw: patterns: 1:12: P14 UnknownNative\n",
+    ) && refuses_patterns(
+        alloc,
+        b"Pattern { let x: Value = x; erase op<t.a>(x); }",
+        b"pdllrw: patterns: 1:26: P10 Undefined\n",
+    )
 }
 
 #[test]
-fn module_files_are_refused(rt: HostRuntime) -> Result<(), Fail> {
-    let alloc = rt.alloc();
-    assert!(rt;
-        refuses(
-            alloc,
-            b"\"t.a\"() {v = 256 : i8} : () -> ()\n",
-            b"pdllrw: module: 1:14: M10 IntRange\n"
-        )?
-    );
-    assert!(rt;
-        refuses(
-            alloc,
-            b"\"t.a\"() {v = -129 : i8} : () -> ()\n",
-            b"pdllrw: module: 1:14: M10 IntRange\n"
-        )?
-    );
-    assert!(rt;
-        refuses(
-            alloc,
-            b"func.func @f() { }",
-            b"pdllrw: module: 1:1: M6 CustomForm\n"
-        )?
-    );
-    assert!(rt;
-        refuses(
-            alloc,
-            b"\"t.a\"() ({^a: ^b: }) : () -> ()",
-            b"pdllrw: module: 1:15: M8 ManyBlocks\n"
-        )?
-    );
-    assert!(rt;
-        refuses(
-            alloc,
-            b"\"t.a\"()[^b] : () -> ()",
-            b"pdllrw: module: 1:8: M7 Successors\n"
-        )?
-    );
-    Ok(())
+fn pattern_files_are_refused(rt: HostRuntime) {
+    assert!(rt; patterns_are_refused(rt.alloc()));
+}
+
+fn modules_are_refused(alloc: Global) -> bool {
+    refuses(
+        alloc,
+        b"\"t.a\"() {v = 256 : i8} : () -> ()\n",
+        b"pdllrw: module: 1:14: M10 IntRange\n",
+    ) && refuses(
+        alloc,
+        b"\"t.a\"() {v = -129 : i8} : () -> ()\n",
+        b"pdllrw: module: 1:14: M10 IntRange\n",
+    ) && refuses(
+        alloc,
+        b"func.func @f() { }",
+        b"pdllrw: module: 1:1: M6 CustomForm\n",
+    ) && refuses(
+        alloc,
+        b"\"t.a\"() ({^a: ^b: }) : () -> ()",
+        b"pdllrw: module: 1:15: M8 ManyBlocks\n",
+    ) && refuses(
+        alloc,
+        b"\"t.a\"()[^b] : () -> ()",
+        b"pdllrw: module: 1:8: M7 Successors\n",
+    )
 }
 
 #[test]
-fn more_module_files_are_refused(rt: HostRuntime) -> Result<(), Fail> {
-    let alloc = rt.alloc();
-    assert!(rt;
-        refuses(
-            alloc,
-            b"\"t.a\"() {s = \"ab",
-            b"pdllrw: module: 1:14: M4 BadString\n"
-        )?
-    );
-    assert!(rt; refuses(alloc, b"\"t.a\"() ({", b"pdllrw: module: 1:11: M5 Syntax\n")?);
-    assert!(rt;
-        refuses(
+fn module_files_are_refused(rt: HostRuntime) {
+    assert!(rt; modules_are_refused(rt.alloc()));
+}
+
+fn more_modules_are_refused(alloc: Global) -> bool {
+    refuses(
+        alloc,
+        b"\"t.a\"() {s = \"ab",
+        b"pdllrw: module: 1:14: M4 BadString\n",
+    ) && refuses(alloc, b"\"t.a\"() ({", b"pdllrw: module: 1:11: M5 Syntax\n")
+        && refuses(
             alloc,
             b"\"t.a\"(%x) : (i32) -> ()",
-            b"pdllrw: module: 1:7: M15 Undefined\n"
-        )?
-    );
-    assert!(rt;
-        refuses(
+            b"pdllrw: module: 1:7: M15 Undefined\n",
+        )
+        && refuses(
             alloc,
             b"\"t.a\"(%x) : (i32) -> ()\n%x = \"t.b\"() : () -> i32",
-            b"pdllrw: module: 1:7: M17 NotVisible\n"
-        )?
-    );
-    assert!(rt;
-        refuses(
+            b"pdllrw: module: 1:7: M17 NotVisible\n",
+        )
+        && refuses(
             alloc,
             b"\"t.a\"() {a, a} : () -> ()",
-            b"pdllrw: module: 1:13: M13 DictTwice\n"
-        )?
-    );
-    assert!(rt;
-        refuses(
+            b"pdllrw: module: 1:13: M13 DictTwice\n",
+        )
+        && refuses(
             alloc,
             b"%x:65535 = \"t.a\"() : () -> ()",
-            b"pdllrw: module: 1:1: M20 CountDiffers\n"
-        )?
-    );
-    Ok(())
+            b"pdllrw: module: 1:1: M20 CountDiffers\n",
+        )
 }
 
 #[test]
-fn a_file_that_is_absent_is_a_read_fault(rt: HostRuntime) -> Result<(), Fail> {
-    let alloc = rt.alloc();
-    let words = words(alloc, &["p", "absent"])?;
+fn more_module_files_are_refused(rt: HostRuntime) {
+    assert!(rt; more_modules_are_refused(rt.alloc()));
+}
+
+#[test]
+fn a_file_that_is_absent_is_a_read_fault(rt: HostRuntime) {
     let line = b"pdllrw: read fault\n";
-    assert!(rt; ends(alloc, &words, PATTERN, MODULE, 6, b"", line)?);
-    Ok(())
+    assert!(rt; ends(rt.alloc(), &["p", "absent"], PATTERN, MODULE, 6, b"", line));
 }
 
 #[test]
