@@ -1,0 +1,4 @@
+pub mod Printable
+pub mod PrintableRows
+pub mod Renumbering
+pub mod Laws
