@@ -64,12 +64,12 @@ closes_again : (p q r : Bool) (other : Effect) → cond ((p && true) || q) Opens
 closes_again true q r other h = absurd (cc)
 closes_again false q r other h = h
 
-closes_before : (c next : ℕ) (dash : Bool) (inner : ℕ) → effect_of c 0 dash inner ≡ Closes → effect_of c next dash inner ≡ Closes
+pub closes_before : (c next : ℕ) (dash : Bool) (inner : ℕ) → effect_of c 0 dash inner ≡ Closes → effect_of c next dash inner ≡ Closes
 closes_before c next dash inner h =
     closes_again (c == 60) (c == 40 || (c == 91 || c == 123)) (not (next == 61))
     (cond ((must_close c || (c == 62 && not dash)) && inner == c) Closes (cond (must_close c) Fails Passes)) h
 
-last_by : (at m : ℕ) (e : Effect) (full last : Bool) → by_effect e (cond full (Err (TooDeep at)) (Err (Unclosed (at + 1)))) (cond last (ends (at + 1)) (Err (Unclosed (at + 1)))) (Err (Unclosed at)) (Err (Unclosed (at + 1))) ≡ ends m → (e ≡ Closes) × (last ≡ true)
+pub last_by : (at m : ℕ) (e : Effect) (full last : Bool) → by_effect e (cond full (Err (TooDeep at)) (Err (Unclosed (at + 1)))) (cond last (ends (at + 1)) (Err (Unclosed (at + 1)))) (Err (Unclosed at)) (Err (Unclosed (at + 1))) ≡ ends m → (e ≡ Closes) × (last ≡ true)
 last_by at m Opens true last h = absurd (cc)
 last_by at m Opens false last h = absurd (cc)
 last_by at m Closes full true h = (refl, refl)

@@ -61,7 +61,7 @@ pub record IsBegun (text : List ℕ) : Type 0 where
 whole_begun : (whole t : List ℕ) (text : List ℕ) → (AllSome : IsBegun whole) → text ≡ whole ++ t → IsBegun text
 whole_begun whole t text b e = record { first = b.first; more = b.more ++ t; is = e ∙ ap (λ x. x ++ t) b.is; digit = b.digit }
 
-number_begun : (float : Bool) (text : List ℕ) → HasForm (if float then k.Float else k.Integer) text → IsBegun text
+pub number_begun : (float : Bool) (text : List ℕ) → HasForm (if float then k.Float else k.Integer) text → IsBegun text
 number_begun false [] (inl some) = absurd some
 number_begun false (d ∷ ds) (inl some) = record { first = d; more = ds; is = refl; digit = some.0 }
 number_begun false text (inr (xs, some, e)) = record { first = 48; more = 120 ∷ xs; is = e; digit = refl }

@@ -87,7 +87,7 @@ numbers o k r at_r =
     let same : get_or rows k r ≡ r = get_or_from_slice_get rows k r r at_r in
     ap (λ (q : Row). q.id) (sym same ∙ nested_rows.row_get f o k r inside) ∙ nested_rows.id_is f o k inside
 
-kept_rows : (o : Operation) (m : Rows) → resolved_rows (laid_operation 0 None o) ≡ m → IsWellFormed m → renumbered m ≡ m
+pub kept_rows : (o : Operation) (m : Rows) → resolved_rows (laid_operation 0 None o) ≡ m → IsWellFormed m → renumbered m ≡ m
 kept_rows o m same well =
     let ls = laid_operation 0 None o in
     let w : IsWellFormed (resolved_rows ls) = subst IsWellFormed (sym same) well in

@@ -54,7 +54,7 @@ count_is a b f g same none = by_test (a == b) refl (same ∙ none)
     by_test false is h = absurd (cc)
 
 -- what an operation without fault says of its operands
-head_parts : (names : Names) (h : Head) → head_fault names h ≡ None → (length h.operands ≡ length h.operand_types) × (types_fault names h.operands h.operand_types ≡ None)
+pub head_parts : (names : Names) (h : Head) → head_fault names h ≡ None → (length h.operands ≡ length h.operand_types) × (types_fault names h.operands h.operand_types ≡ None)
 unfolding head_fault
 head_parts names h none =
     let a = none_of (uses_fault names h.operands) (or_then (count_fault h) (or_then (types_fault names h.operands h.operand_types) (entries_fault h))) none in

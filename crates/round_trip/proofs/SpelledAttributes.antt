@@ -44,7 +44,7 @@ typed_fine room (Some t) s r utf8 (m, colon, type) =
 
 -- ---- strings and names
 
-string_fine : (bytes : List ℕ) (s r : Place) → IsUtf8 s.bytes → IsString s bytes r → Fine (AreBytes bytes) s r
+pub string_fine : (bytes : List ℕ) (s r : Place) → IsUtf8 s.bytes → IsString s bytes r → Fine (AreBytes bytes) s r
 string_fine bytes s r utf8 (text, there, value) =
     (subst AreBytes value (string_bytes text (form_of k.String text s r (λ e. cc) there) (token_bytes k.String text s r utf8 there)), same_text k.String text s r there)
 
@@ -71,7 +71,7 @@ more_fine mark One P one (x ∷ xs) s r utf8 (s1, s2, comma, here, more) =
     let (rest, e2) = more_fine mark One P one xs s2 r (at_same s s2 (e1 ∙ e0) utf8) more in
     ((fine, rest), e2 ∙ e1 ∙ e0)
 
-symbols_fine : (names : List (List ℕ)) (s r : Place) → IsUtf8 s.bytes → AreSymbols s names r → Fine ((0 < length names) × AllByRecursion AreBytes names) s r
+pub symbols_fine : (names : List (List ℕ)) (s r : Place) → IsUtf8 s.bytes → AreSymbols s names r → Fine ((0 < length names) × AllByRecursion AreBytes names) s r
 symbols_fine [] s r utf8 h = absurd h
 symbols_fine (n ∷ names) s r utf8 (s1, one, more) =
     let (fine, e1) = symbol_fine n s s1 utf8 one in
@@ -84,7 +84,7 @@ entry_name_fine name s r utf8 (inr string) = string_fine name s r utf8 string
 
 -- ---- numbers
 
-no_int_float : (g : Sign) (w : ℕ) → IsIntWord g w (codes "f64") → ⊥
+pub no_int_float : (g : Sign) (w : ℕ) → IsIntWord g w (codes "f64") → ⊥
 no_int_float Signless w (digits, is, text, value) = let e : ◌≡◌ {A = ℕ} 102 105 = ap (λ t. slice_index t 0) text in omega arith
 no_int_float Signed w (digits, is, text, value) = let e : ◌≡◌ {A = ℕ} 102 115 = ap (λ t. slice_index t 0) text in omega arith
 no_int_float Unsigned w (digits, is, text, value) = let e : ◌≡◌ {A = ℕ} 102 117 = ap (λ t. slice_index t 0) text in omega arith
@@ -94,11 +94,11 @@ float_type room =
     let form : HasForm k.Word (codes "f64") = (refl, (refl, (refl, tt))) in
     (inl (form, record { no_other = refl; no_index = λ e. let b : ◌≡◌ {A = ℕ} 102 105 = ap (λ t. slice_index t 0) e in omega arith; no_int = no_int_float }), word_utf8 (codes "f64") form)
 
-sign_fine : (neg : Bool) (s digits : Place) → ((neg ≡ false) × (s ≡ digits)) ⊎ ((neg ≡ true) × IsMark k.Minus s digits) → digits.bytes ≡ s.bytes
+pub sign_fine : (neg : Bool) (s digits : Place) → ((neg ≡ false) × (s ≡ digits)) ⊎ ((neg ≡ true) × IsMark k.Minus s digits) → digits.bytes ≡ s.bytes
 sign_fine neg s digits (inl (is, same)) = ap (λ (p : Place). p.bytes) (sym same)
 sign_fine neg s digits (inr (is, mark)) = mark_text k.Minus s digits mark
 
-no_end : (float : Bool) → (if float then k.Float else k.Integer) ≢ k.End
+pub no_end : (float : Bool) → (if float then k.Float else k.Integer) ≢ k.End
 no_end true e = cc
 no_end false e = cc
 
@@ -131,7 +131,7 @@ truth_range : (b : Bool) → IsInRange (int Signless 1) (record { neg = b; mag =
 truth_range true = (omega arith, (omega arith, omega arith))
 truth_range false = (omega arith, omega arith)
 
-truth_fine : (b : Bool) (n : Number) (t : Ty) → truth b ≡ int_attr n t → IsInRange t n
+pub truth_fine : (b : Bool) (n : Number) (t : Ty) → truth b ≡ int_attr n t → IsInRange t n
 unfolding num_of type_of
 truth_fine b n t same =
     let number : record { neg = b; mag = if b then 1 else 0 } ≡ n = ap (num_of n) same in

@@ -66,7 +66,7 @@ class_ascii : (test : ℕ → Bool) (text : List ℕ) → ((c : ℕ) → test c 
 class_ascii test [] low h = tt
 class_ascii test (b ∷ text) low h = (low b h.0, class_ascii test text low h.1)
 
-suffix_ascii : (xs : List ℕ) → IsSuffix xs → AreAscii xs
+pub suffix_ascii : (xs : List ℕ) → IsSuffix xs → AreAscii xs
 suffix_ascii [] h = absurd h
 suffix_ascii (b ∷ xs) (inl all) = class_ascii is_digit (b ∷ xs) digit_low all
 suffix_ascii (b ∷ xs) (inr (start, all)) = (suffix_start_low b start, class_ascii is_suffix_byte xs suffix_low all)
@@ -148,7 +148,7 @@ End = Result ℕ BodyFault
 abbrev ends : ℕ → End
 ends n = Ok n
 
-abbrev Wider : ℕ → ℕ → ℕ → List ℕ → ℕ → Type 0
+abbrev pub Wider : ℕ → ℕ → ℕ → List ℕ → ℕ → Type 0
 Wider small large at s e = (closers : List ℕ) (dash : Bool) (n : ℕ) → body small closers dash n at s ≡ ends e → body large closers dash n at s ≡ ends e
 
 abbrev step_of : ℕ → ℕ → ℕ → List ℕ → List ℕ → Effect → Bool → Bool → End
@@ -183,7 +183,7 @@ wider_either small large at c closers s dash e true le go h = wider_string small
 wider_either small large at c closers s dash e false le go h =
     wider_step small large at c closers s e (effect_of c (slice_index s 0) dash (innermost closers)) (nat_le small (length closers)) (nat_le large (length closers)) (nat_le (length closers) 1) (still_room small large (length closers) le) go h
 
-wider : (small large : ℕ) → small ≤ large → (s : List ℕ) (at e : ℕ) → Wider small large at s e
+pub wider : (small large : ℕ) → small ≤ large → (s : List ℕ) (at e : ℕ) → Wider small large at s e
 wider small large le [] at e closers dash n h = absurd (cc)
 wider small large le (c ∷ s) at e closers dash (suc n) h = wider small large le s (at + 1) e closers false n h
 wider small large le (c ∷ s) at e closers dash zero h = wider_either small large at c closers s dash e (c == 34) le (wider small large le s (at + 1) e) h

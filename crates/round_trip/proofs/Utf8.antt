@@ -115,7 +115,7 @@ name_utf8 name h = by_test (is_bare name) refl
 
 -- ---- types
 
-sign_utf8 : (g : Sign) → IsUtf8 (sign_text g)
+pub sign_utf8 : (g : Sign) → IsUtf8 (sign_text g)
 sign_utf8 Signless = written (codes "i") refl
 sign_utf8 Signed = written (codes "si") refl
 sign_utf8 Unsigned = written (codes "ui") refl
@@ -163,11 +163,11 @@ number_ascii true text f =
     subst AreAscii (sym f.parts) (join_ascii f.whole (46 ∷ (f.fraction ++ f.exponent)) (digits_some is_digit f.whole digit_low f.has_whole)
     (omega arith, join_ascii f.fraction f.exponent (class_ascii is_digit f.fraction digit_low f.has_fraction) (exponent_ascii f.exponent f.has_exponent)))
 
-signed_utf8 : (neg : Bool) (text : List ℕ) → IsUtf8 text → IsUtf8 (signed_text neg text)
+pub signed_utf8 : (neg : Bool) (text : List ℕ) → IsUtf8 text → IsUtf8 (signed_text neg text)
 signed_utf8 true text h = both (written (45 ∷ []) refl) h
 signed_utf8 false text h = h
 
-num_utf8 : (text : List ℕ) → IsNumberText text → IsUtf8 text
+pub num_utf8 : (text : List ℕ) → IsNumberText text → IsUtf8 text
 num_utf8 written_text (neg, float, text, form, sort, same) = subst IsUtf8 same (signed_utf8 neg text (ascii text (number_ascii float text form)))
 
 colon_utf8 : (room : ℕ) (t : Ty) → IsPrintableTy room t → IsUtf8 (colon_type_text t)
@@ -177,7 +177,7 @@ typed_utf8 : (room : ℕ) (t : Option Ty) → IsTyped room t → IsUtf8 (typed_t
 typed_utf8 room None h = written [] refl
 typed_utf8 room (Some t) h = colon_utf8 room t h
 
-bit_utf8 : (neg : Bool) → IsUtf8 (if neg then codes "true" else codes "false")
+pub bit_utf8 : (neg : Bool) → IsUtf8 (if neg then codes "true" else codes "false")
 bit_utf8 true = written (codes "true") refl
 bit_utf8 false = written (codes "false") refl
 

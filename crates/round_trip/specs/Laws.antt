@@ -1,5 +1,5 @@
 -- Laws of printing and reading.
-use Rattle.std.specs.Prelude.{◌≡◌, ℕ, true, List, [], ◌∷◌, Ok, IsUtf8}
+use Rattle.std.specs.Prelude.{◌≡◌, ℕ, ◌≤◌, true, List, [], ◌∷◌, length, Ok, IsUtf8}
 use Rattle.mlir_lexer.specs.declared.token.TokenKind.TheVariants as k
 use Rattle.mlir_tree.specs.declared.rows.Rows.{Rows}
 use Rattle.mlir_tree.specs.Tree.{Ty, Attr}
@@ -8,6 +8,7 @@ use Rattle.mlir_print.specs.ModuleText.{module_text}
 use Rattle.mlir_parse.specs.declared.syn.Syn.{Syn}
 use Rattle.mlir_parse.specs.Place.{Place, start_of}
 use Rattle.mlir_parse.specs.Types.{max_open}
+use Rattle.mlir_parse.specs.Steps.{max_operations}
 use Rattle.mlir_parse.specs.Grammar.{IsMark}
 use Rattle.mlir_parse.specs.SynTree.{Operation}
 use Rattle.mlir_parse.specs.OperationGrammar.{IsOperation}
@@ -19,6 +20,7 @@ use Rattle.mlir_resolve.specs.Resolving.{resolved}
 use Rattle.round_trip.specs.Printable.{IsPrintableTy, IsPrintableAttr}
 use Rattle.round_trip.specs.PrintableRows.{IsPrintable}
 use Rattle.round_trip.specs.Renumbering.{renumbered}
+use Rattle.round_trip.specs.Brackets.{IsWithinBrackets}
 
 -- The text of a type spells this type.
 abbrev pub TypesReadBack : Type 0
@@ -62,3 +64,14 @@ abbrev pub ReadsAgain : Type 0
 ReadsAgain =
     (bytes : List ℕ) (o : Operation) (m : Rows) → IsPlainFile bytes o → resolved (record { ops = o ∷ [] }) ≡ Ok m
     → (file : Syn) × IsModuleFile (module_text m.rows) file × (resolved file ≡ Ok m)
+
+-- The rows that are read from a file are printable, where their text keeps the limits of operations and brackets.
+abbrev pub ReadRowsArePrintable : Type 0
+ReadRowsArePrintable =
+    (bytes : List ℕ) (file : Syn) (m : Rows) → IsModuleFile bytes file → resolved file ≡ Ok m → length m.rows ≤ max_operations → IsWithinBrackets m → IsPrintable m
+
+-- So they are the same rows after they are printed and read again.
+abbrev pub ReadRowsReadBack : Type 0
+ReadRowsReadBack =
+    (bytes : List ℕ) (file : Syn) (m : Rows) → IsModuleFile bytes file → resolved file ≡ Ok m → length m.rows ≤ max_operations → IsWithinBrackets m
+    → (again : Syn) × IsModuleFile (module_text m.rows) again × (resolved again ≡ Ok m)

@@ -1,4 +1,5 @@
 pub mod Printable
 pub mod PrintableRows
 pub mod Renumbering
+pub mod Brackets
 pub mod Laws

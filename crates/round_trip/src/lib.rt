@@ -1,7 +1,7 @@
 //! Laws of printing and reading: what is printed reads back. Each is a call that does nothing and promises the law.
 #![tactic(auto)]
 
-ghost use Rattle.round_trip.specs.Laws.{TypesReadBack, SpelledTypesArePrintable, AttributesReadBack, SpelledAttributesArePrintable, ModulesAreSpelled, ReadsBack, SpelledRowsArePrintable, ReadsAgain};
+ghost use Rattle.round_trip.specs.Laws.{TypesReadBack, SpelledTypesArePrintable, AttributesReadBack, SpelledAttributesArePrintable, ModulesAreSpelled, ReadsBack, SpelledRowsArePrintable, ReadsAgain, ReadRowsArePrintable, ReadRowsReadBack};
 
 /// The text of a printable type spells this type.
 #[tactic(auto, using(crate::proofs::Whole::types_read_back))]
@@ -45,4 +45,14 @@ pub fn spelled_rows_are_printable()
 /// What is read from such a file is the same module after it is printed and read again.
 pub fn reads_again()
     ensures { ReadsAgain }
+{}
+
+/// The rows that are read from a file are printable, where their text keeps the limits.
+pub fn read_rows_are_printable()
+    ensures { ReadRowsArePrintable }
+{}
+
+/// So they are the same rows after they are printed and read again.
+pub fn read_rows_read_back()
+    ensures { ReadRowsReadBack }
 {}
