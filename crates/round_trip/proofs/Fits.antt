@@ -103,9 +103,9 @@ signed_outer false text h = h
 
 num_fit : (text : List ℕ) → IsNumberText text → IsFit text
 num_fit written_text (neg, float, text, form, sort, same) = record {
-    skips = plain written_text (subst (AllByRecursion IsOuter) same (signed_outer neg text (number_outer float text form)));
-    utf8 = num_utf8 written_text (neg, float, text, form, sort, same);
-  }
+  skips = plain written_text (subst (AllByRecursion IsOuter) same (signed_outer neg text (number_outer float text form)));
+  utf8 = num_utf8 written_text (neg, float, text, form, sort, same);
+}
 
 literal_fit : (text : List ℕ) → list_all is_outer text ≡ true → IsUtf8 text → IsFit text
 literal_fit text h utf8 = record { skips = plain text (outer_text text h); utf8 = utf8 }
@@ -119,9 +119,9 @@ sign_fit Unsigned = literal_fit (codes "ui") refl (sign_utf8 Unsigned)
 
 width_fit : (w : ℕ) → w ≤ 16777215 → IsFit (decimal w)
 width_fit w h = record {
-    skips = plain (decimal w) (all_outer is_digit (decimal w) digit_outer (decimal_wide w (omega (arith, h))).all);
-    utf8 = IsUtf8-from_ascii (decimal w) (IsAscii-decimal w (small_width w h));
-  }
+  skips = plain (decimal w) (all_outer is_digit (decimal w) digit_outer (decimal_wide w (omega (arith, h))).all);
+  utf8 = IsUtf8-from_ascii (decimal w) (IsAscii-decimal w (small_width w h));
+}
 
 in_round : (text : List ℕ) → IsFit text → IsFit (codes "(" ++ (text ++ codes ")"))
 in_round text h = record { skips = bracketed 40 41 text round h.skips; utf8 = both (written (codes "(") refl) (both h.utf8 (written (codes ")") refl)) }

@@ -142,11 +142,11 @@ opens_step limit second more closers dash at other full = rw (other, full) refl
 
 pub sound_body : (text : List ℕ) → IsSoundBody text → Skips text
 sound_body text h = subst Skips (sym h.is) (record {
-    need = suc h.limit;
-    skips = λ limit c cs dash at z few.
-        let r = behind h.limit limit c cs z (omega (arith, few)) (h.second ∷ h.more) 1 (at + 1) 62 [] false 0 (h.ends ∙ ap ends (let e : length (60 ∷ h.second ∷ h.more) ≡ 1 + length (h.second ∷ h.more) = omega arith in e)) in
-        opens_step limit h.second (h.more ++ z) (c ∷ cs) dash at h.other (lt-leb limit (length (c ∷ cs)) (omega (arith, few)))
-        ∙ r.same
-        ∙ ap (λ d. body limit (c ∷ cs) d 0 ((at + 1) + length (h.second ∷ h.more)) z) (sym (r.end_dash (60 == 45)))
-        ∙ ap (λ n. body limit (c ∷ cs) (dash_behind dash (60 ∷ h.second ∷ h.more)) 0 n z) (let e : (at + 1) + length (h.second ∷ h.more) ≡ at + length (60 ∷ h.second ∷ h.more) = omega arith in e);
-  })
+  need = suc h.limit;
+  skips = λ limit c cs dash at z few.
+      let r = behind h.limit limit c cs z (omega (arith, few)) (h.second ∷ h.more) 1 (at + 1) 62 [] false 0 (h.ends ∙ ap ends (let e : length (60 ∷ h.second ∷ h.more) ≡ 1 + length (h.second ∷ h.more) = omega arith in e)) in
+      opens_step limit h.second (h.more ++ z) (c ∷ cs) dash at h.other (lt-leb limit (length (c ∷ cs)) (omega (arith, few)))
+      ∙ r.same
+      ∙ ap (λ d. body limit (c ∷ cs) d 0 ((at + 1) + length (h.second ∷ h.more)) z) (sym (r.end_dash (60 == 45)))
+      ∙ ap (λ n. body limit (c ∷ cs) (dash_behind dash (60 ∷ h.second ∷ h.more)) 0 n z) (let e : (at + 1) + length (h.second ∷ h.more) ≡ at + length (60 ∷ h.second ∷ h.more) = omega arith in e);
+})

@@ -154,9 +154,9 @@ alias_put a other h =
   where
     by_test : IsFit a.text → Begins a.text → 0 < length a.text → (p : Bool) → (slice_index a.text (length a.text - 1) == 45) ≡ p → IsPut (if p then a.text ++ 32 ∷ [] else a.text)
     by_test f g some true is = record {
-        skips = join a.text (32 ∷ []) f.skips (plain (32 ∷ []) space_outer);
-        utf8 = both f.utf8 (written (32 ∷ []) refl);
-        begins = record { first = g.first; more = g.more ++ 32 ∷ []; is = ap (λ t. t ++ 32 ∷ []) g.is; other = g.other };
-        no_dash = λ d. dash_last d a.text 32;
-      }
+      skips = join a.text (32 ∷ []) f.skips (plain (32 ∷ []) space_outer);
+      utf8 = both f.utf8 (written (32 ∷ []) refl);
+      begins = record { first = g.first; more = g.more ++ 32 ∷ []; is = ap (λ t. t ++ 32 ∷ []) g.is; other = g.other };
+      no_dash = λ d. dash_last d a.text 32;
+    }
     by_test f g some false is = record { skips = f.skips; utf8 = f.utf8; begins = g; no_dash = λ d. dash_text d a.text some ∙ is }

@@ -65,13 +65,13 @@ no_dash (suc n) = refl
 -- a text that the scan goes past, before one that ends
 put_before : (front rest : List ℕ) (c : ℕ) (cs : List ℕ) (dash : Bool) → Skips front → dash_behind dash front ≡ false → Ends (c ∷ cs) false rest → Ends (c ∷ cs) dash (front ++ rest)
 put_before front rest c cs dash x flat h = record {
-    limit = h.limit + (x.need + suc (length cs));
-    ends_at = λ other.
-        x.skips (h.limit + (x.need + suc (length cs))) c cs dash other rest (omega arith)
-        ∙ ap (λ d. body (h.limit + (x.need + suc (length cs))) (c ∷ cs) d 0 (other + length front) rest) flat
-        ∙ wider h.limit (h.limit + (x.need + suc (length cs))) (omega arith) rest (other + length front) ((other + length front) + length rest) (c ∷ cs) false 0 (h.ends_at (other + length front))
-        ∙ ap ends (let e : (other + length front) + length rest ≡ other + length (front ++ rest) = omega (arith, length-append front rest) in e);
-  }
+  limit = h.limit + (x.need + suc (length cs));
+  ends_at = λ other.
+      x.skips (h.limit + (x.need + suc (length cs))) c cs dash other rest (omega arith)
+      ∙ ap (λ d. body (h.limit + (x.need + suc (length cs))) (c ∷ cs) d 0 (other + length front) rest) flat
+      ∙ wider h.limit (h.limit + (x.need + suc (length cs))) (omega arith) rest (other + length front) ((other + length front) + length rest) (c ∷ cs) false 0 (h.ends_at (other + length front))
+      ∙ ap ends (let e : (other + length front) + length rest ≡ other + length (front ++ rest) = omega (arith, length-append front rest) in e);
+}
 
 -- ---- the byte that follows
 
@@ -144,12 +144,12 @@ module _ (aliases : List Alias) (known : AreSoundAliases aliases) (room : ℕ) w
 
   opens_next : (c : ℕ) (cs : List ℕ) (b : ℕ) (rest : List ℕ) → Ends (closer b ∷ c ∷ cs) (b == 45) rest → Next c cs b rest Opens
   opens_next c cs b rest h = record {
-      limit = h.limit + suc (length (c ∷ cs));
-      next = λ other.
-          ap (λ q. cond q (Err (TooDeep other)) (body (h.limit + suc (length (c ∷ cs))) (closer b ∷ c ∷ cs) (b == 45) 0 (other + 1) rest)) (lt-leb (h.limit + suc (length (c ∷ cs))) (length (c ∷ cs)) (omega arith))
-          ∙ wider h.limit (h.limit + suc (length (c ∷ cs))) (omega arith) rest (other + 1) ((other + 1) + length rest) (closer b ∷ c ∷ cs) (b == 45) 0 (h.ends_at (other + 1))
-          ∙ ap ends (sym (longer_at other rest));
-    }
+    limit = h.limit + suc (length (c ∷ cs));
+    next = λ other.
+        ap (λ q. cond q (Err (TooDeep other)) (body (h.limit + suc (length (c ∷ cs))) (closer b ∷ c ∷ cs) (b == 45) 0 (other + 1) rest)) (lt-leb (h.limit + suc (length (c ∷ cs))) (length (c ∷ cs)) (omega arith))
+        ∙ wider h.limit (h.limit + suc (length (c ∷ cs))) (omega arith) rest (other + 1) ((other + 1) + length rest) (closer b ∷ c ∷ cs) (b == 45) 0 (h.ends_at (other + 1))
+        ∙ ap ends (sym (longer_at other rest));
+  }
 
   closes_next : (limit at b c : ℕ) (cs s rest : List ℕ) (put2 place put : ℕ) (ncs : List ℕ) (last : Bool) → nat_le (length (c ∷ cs)) 1 ≡ last → Goes limit (at + 1) s
       → cond last (ends (at + 1)) (body limit cs (b == 45) 0 (at + 1) s) ≡ ends (at + suc (length s)) → rest_of ncs (b == 45) 0 put place s ≡ told rest put2 → Next c cs b rest Closes

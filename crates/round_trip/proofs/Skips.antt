@@ -39,13 +39,13 @@ nothing = record { need = 0; skips = λ limit c cs dash at z few. ap (λ n. body
 
 pub join : (a b : List ℕ) → Skips a → Skips b → Skips (a ++ b)
 join a b x y = record {
-    need = x.need + y.need;
-    skips = λ limit c cs dash at z few.
-        ap (body limit (c ∷ cs) dash 0 at) (append_assoc a b z) ∙ x.skips limit c cs dash at (b ++ z) (omega (arith, few))
-        ∙ y.skips limit c cs (dash_behind dash a) (at + length a) z (omega (arith, few))
-        ∙ ap (λ d. body limit (c ∷ cs) d 0 ((at + length a) + length b) z) (sym (dash_join dash a b))
-        ∙ ap (λ n. body limit (c ∷ cs) (dash_behind dash (a ++ b)) 0 n z) (let e : (at + length a) + length b ≡ at + length (a ++ b) = omega (arith, length-append a b) in e);
-  }
+  need = x.need + y.need;
+  skips = λ limit c cs dash at z few.
+      ap (body limit (c ∷ cs) dash 0 at) (append_assoc a b z) ∙ x.skips limit c cs dash at (b ++ z) (omega (arith, few))
+      ∙ y.skips limit c cs (dash_behind dash a) (at + length a) z (omega (arith, few))
+      ∙ ap (λ d. body limit (c ∷ cs) d 0 ((at + length a) + length b) z) (sym (dash_join dash a b))
+      ∙ ap (λ n. body limit (c ∷ cs) (dash_behind dash (a ++ b)) 0 n z) (let e : (at + length a) + length b ≡ at + length (a ++ b) = omega (arith, length-append a b) in e);
+}
 
 pub same_text : (a b : List ℕ) → a ≡ b → Skips a → Skips b
 same_text a b e x = subst Skips e x
@@ -90,16 +90,16 @@ dash_quote dash (b ∷ text) = dash_quote (b == 45) text
 
 pub string : (text : List ℕ) → IsString text → Skips text
 string text (value, (within, spells, same)) = subst Skips (sym same) (record {
-    need = 0;
-    skips = λ limit c cs dash at z few.
-        let covers : string_end at ((34 ∷ (within ++ 34 ∷ [])) ++ z) ≡ Some (at + length (34 ∷ (within ++ 34 ∷ []))) = string_covers (34 ∷ (within ++ 34 ∷ [])) z at (value, (within, spells, refl)) in
-        let count : (at + length (34 ∷ (within ++ 34 ∷ []))) - (at + 1) ≡ length (within ++ 34 ∷ []) = omega arith in
-        ap (λ o. option_map_or (λ end. body limit (c ∷ cs) false (end - (at + 1)) (at + 1) ((within ++ 34 ∷ []) ++ z)) o (Err (BadString at))) covers
-        ∙ ap (λ n. body limit (c ∷ cs) false n (at + 1) ((within ++ 34 ∷ []) ++ z)) count
-        ∙ skip_bytes (length (within ++ 34 ∷ [])) limit (c ∷ cs) (at + 1) (within ++ 34 ∷ []) z refl
-        ∙ ap (λ n. body limit (c ∷ cs) false 0 n z) (let e : (at + 1) + length (within ++ 34 ∷ []) ≡ at + length (34 ∷ (within ++ 34 ∷ [])) = omega arith in e)
-        ∙ ap (λ d. body limit (c ∷ cs) d 0 (at + length (34 ∷ (within ++ 34 ∷ []))) z) (sym (dash_quote (34 == 45) within));
-  })
+  need = 0;
+  skips = λ limit c cs dash at z few.
+      let covers : string_end at ((34 ∷ (within ++ 34 ∷ [])) ++ z) ≡ Some (at + length (34 ∷ (within ++ 34 ∷ []))) = string_covers (34 ∷ (within ++ 34 ∷ [])) z at (value, (within, spells, refl)) in
+      let count : (at + length (34 ∷ (within ++ 34 ∷ []))) - (at + 1) ≡ length (within ++ 34 ∷ []) = omega arith in
+      ap (λ o. option_map_or (λ end. body limit (c ∷ cs) false (end - (at + 1)) (at + 1) ((within ++ 34 ∷ []) ++ z)) o (Err (BadString at))) covers
+      ∙ ap (λ n. body limit (c ∷ cs) false n (at + 1) ((within ++ 34 ∷ []) ++ z)) count
+      ∙ skip_bytes (length (within ++ 34 ∷ [])) limit (c ∷ cs) (at + 1) (within ++ 34 ∷ []) z refl
+      ∙ ap (λ n. body limit (c ∷ cs) false 0 n z) (let e : (at + 1) + length (within ++ 34 ∷ []) ≡ at + length (34 ∷ (within ++ 34 ∷ [])) = omega arith in e)
+      ∙ ap (λ d. body limit (c ∷ cs) d 0 (at + length (34 ∷ (within ++ 34 ∷ []))) z) (sym (dash_quote (34 == 45) within));
+})
 
 -- ---- brackets
 
@@ -118,27 +118,27 @@ pub record IsPair (b e : ℕ) : Type 0 where
 
 pub round : IsPair 40 41
 round = record {
-    opens = λ limit closers dash at z h. ap (λ q. cond q (Err (TooDeep at)) (body limit (41 ∷ closers) false 0 (at + 1) z)) h;
-    closes = λ limit c cs dash at z. ap (λ q. cond q (ends (at + 1)) (body limit (c ∷ cs) false 0 (at + 1) z)) (two (length cs));
-    no_dash = refl;
-    end_no_dash = refl;
-  }
+  opens = λ limit closers dash at z h. ap (λ q. cond q (Err (TooDeep at)) (body limit (41 ∷ closers) false 0 (at + 1) z)) h;
+  closes = λ limit c cs dash at z. ap (λ q. cond q (ends (at + 1)) (body limit (c ∷ cs) false 0 (at + 1) z)) (two (length cs));
+  no_dash = refl;
+  end_no_dash = refl;
+}
 
 pub square : IsPair 91 93
 square = record {
-    opens = λ limit closers dash at z h. ap (λ q. cond q (Err (TooDeep at)) (body limit (93 ∷ closers) false 0 (at + 1) z)) h;
-    closes = λ limit c cs dash at z. ap (λ q. cond q (ends (at + 1)) (body limit (c ∷ cs) false 0 (at + 1) z)) (two (length cs));
-    no_dash = refl;
-    end_no_dash = refl;
-  }
+  opens = λ limit closers dash at z h. ap (λ q. cond q (Err (TooDeep at)) (body limit (93 ∷ closers) false 0 (at + 1) z)) h;
+  closes = λ limit c cs dash at z. ap (λ q. cond q (ends (at + 1)) (body limit (c ∷ cs) false 0 (at + 1) z)) (two (length cs));
+  no_dash = refl;
+  end_no_dash = refl;
+}
 
 pub brace : IsPair 123 125
 brace = record {
-    opens = λ limit closers dash at z h. ap (λ q. cond q (Err (TooDeep at)) (body limit (125 ∷ closers) false 0 (at + 1) z)) h;
-    closes = λ limit c cs dash at z. ap (λ q. cond q (ends (at + 1)) (body limit (c ∷ cs) false 0 (at + 1) z)) (two (length cs));
-    no_dash = refl;
-    end_no_dash = refl;
-  }
+  opens = λ limit closers dash at z h. ap (λ q. cond q (Err (TooDeep at)) (body limit (125 ∷ closers) false 0 (at + 1) z)) h;
+  closes = λ limit c cs dash at z. ap (λ q. cond q (ends (at + 1)) (body limit (c ∷ cs) false 0 (at + 1) z)) (two (length cs));
+  no_dash = refl;
+  end_no_dash = refl;
+}
 
 pub dash_last : (dash : Bool) (text : List ℕ) (e : ℕ) → dash_behind dash (text ++ e ∷ []) ≡ (e == 45)
 dash_last dash [] e = refl
@@ -146,16 +146,16 @@ dash_last dash (b ∷ text) e = dash_last (b == 45) text e
 
 pub bracketed : (b e : ℕ) (text : List ℕ) → IsPair b e → Skips text → Skips (b ∷ (text ++ e ∷ []))
 bracketed b e text p x = record {
-    need = suc x.need;
-    skips = λ limit c cs dash at z few.
-        let full = room_for limit (suc (length cs)) (omega (arith, few)) in
-        p.opens limit (c ∷ cs) dash at ((text ++ e ∷ []) ++ z) full
-        ∙ ap (body limit (e ∷ c ∷ cs) false 0 (at + 1)) (append_assoc text (e ∷ []) z)
-        ∙ x.skips limit e (c ∷ cs) false (at + 1) (e ∷ z) (omega (arith, few))
-        ∙ p.closes limit c cs (dash_behind false text) ((at + 1) + length text) z
-        ∙ ap (λ d. body limit (c ∷ cs) d 0 (((at + 1) + length text) + 1) z) (sym (dash_last (b == 45) text e ∙ p.end_no_dash))
-        ∙ ap (λ n. body limit (c ∷ cs) (dash_behind dash (b ∷ (text ++ e ∷ []))) 0 n z) (let same : ((at + 1) + length text) + 1 ≡ at + length (b ∷ (text ++ e ∷ [])) = omega (arith, length-append text (e ∷ [])) in same);
-  }
+  need = suc x.need;
+  skips = λ limit c cs dash at z few.
+      let full = room_for limit (suc (length cs)) (omega (arith, few)) in
+      p.opens limit (c ∷ cs) dash at ((text ++ e ∷ []) ++ z) full
+      ∙ ap (body limit (e ∷ c ∷ cs) false 0 (at + 1)) (append_assoc text (e ∷ []) z)
+      ∙ x.skips limit e (c ∷ cs) false (at + 1) (e ∷ z) (omega (arith, few))
+      ∙ p.closes limit c cs (dash_behind false text) ((at + 1) + length text) z
+      ∙ ap (λ d. body limit (c ∷ cs) d 0 (((at + 1) + length text) + 1) z) (sym (dash_last (b == 45) text e ∙ p.end_no_dash))
+      ∙ ap (λ n. body limit (c ∷ cs) (dash_behind dash (b ∷ (text ++ e ∷ []))) 0 n z) (let same : ((at + 1) + length text) + 1 ≡ at + length (b ∷ (text ++ e ∷ [])) = omega (arith, length-append text (e ∷ [])) in same);
+}
 
 -- ` -> `, whose `>` closes nothing
 pub arrow : Skips (32 ∷ 45 ∷ 62 ∷ 32 ∷ [])

@@ -80,16 +80,16 @@ abbrev mutual
 
 outer_by : (b : ℕ) → (b ≡ 34 → ⊥) → (b ≡ 40 → ⊥) → (b ≡ 41 → ⊥) → (b ≡ 60 → ⊥) → (b ≡ 62 → ⊥) → (b ≡ 91 → ⊥) → (b ≡ 93 → ⊥) → (b ≡ 123 → ⊥) → (b ≡ 125 → ⊥) → IsOuter b
 outer_by b q r cr l g s cs c cc0 = record {
-    quote = no 34 q;
-    round = no 40 r;
-    close_round = no 41 cr;
-    less = no 60 l;
-    greater = no 62 g;
-    square = no 91 s;
-    close_square = no 93 cs;
-    brace = no 123 c;
-    close_brace = no 125 cc0;
-  }
+  quote = no 34 q;
+  round = no 40 r;
+  close_round = no 41 cr;
+  less = no 60 l;
+  greater = no 62 g;
+  square = no 91 s;
+  close_square = no 93 cs;
+  brace = no 123 c;
+  close_brace = no 125 cc0;
+}
   where
     by_test : (n : ℕ) (p : Bool) → b == n ≡ p → (b ≡ n → ⊥) → p ≡ false
     by_test n true is h = absurd (h (eqb-true b n is))
@@ -159,12 +159,17 @@ narrow_whole : (IsFront : List ℕ → Type 0) → ((front : List ℕ) → IsFro
 narrow_whole IsFront outer room most text (front, b, is, h, same) few =
     let all : front ++ 60 ∷ h.second ∷ h.more ≡ text = ap (λ t. front ++ t) (sym h.is) ∙ same in
     let n = narrow_body front h.second h.more h.limit room (outer front is) h.other h.ends (subst (λ t. nesting t ≤ room) (sym all) few) in
-    let limit : room ≡ 256 - (max_open - room) = omega (arith, most) in
-    (front, b, is, subst (IsWholeBody room) (sym h.is) (record {
-      opens = ap not h.other;
-      some = n.0;
-      ends = subst (λ r. body r (62 ∷ []) false 0 1 (h.second ∷ h.more) ≡ Ok (length (60 ∷ h.second ∷ h.more))) limit n.1;
-    }), same)
+    let limit : room ≡ 256 - (max_open - room) = omega (arith, most) in (
+      front,
+      b,
+      is,
+      subst (IsWholeBody room) (sym h.is) (record {
+        opens = ap not h.other;
+        some = n.0;
+        ends = subst (λ r. body r (62 ∷ []) false 0 1 (h.second ∷ h.more) ≡ Ok (length (60 ∷ h.second ∷ h.more))) limit n.1;
+      }),
+      same,
+    )
 
 narrow_word : (room : ℕ) → room ≤ max_open → (text : List ℕ) → IsSoundWord text → nesting text ≤ room → IsTypeWord room text
 narrow_word room most text (inl h) few = inl h

@@ -60,7 +60,7 @@ module _ (aliases : List Alias) (ready : AreReady aliases) where
       let (fine, e) = number_fine room neg float text t s r utf8 number in
       (((neg, float, text, fine.0, sort, same), other, fine.1 other), e)
 
--- ---- kept attributes
+  -- ---- kept attributes
 
   front_fine : (room : ℕ) (text : List ℕ) (s r : Place) → IsUtf8 s.bytes → HasKeptBody aliases room text s r → Fine (IsSoundKept text × IsUtf8 text) s r
   front_fine room text s r utf8 (front, body, m, m1, inl (there, is), less, h, same) =
@@ -85,7 +85,7 @@ module _ (aliases : List Alias) (ready : AreReady aliases) where
       let (fine, e1) = typed_fine room t m r (at_same s m e0 utf8) typed in
       ((inr (form, point), hash_utf8 text form, fine), e1 ∙ e0)
 
--- ---- attributes
+  -- ---- attributes
 
   plain_fine : (room : ℕ) (x : Attr) (s r : Place) → IsUtf8 s.bytes → IsPlainAttr aliases room s x r → Fine (IsSoundAttr x) s r
   plain_fine room unit s r utf8 h = (tt, same_text k.Word _ s r h)

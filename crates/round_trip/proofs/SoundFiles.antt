@@ -54,13 +54,13 @@ not_true false h = refl
 sound_of : (rest : List ℕ) → Ends (62 ∷ []) false rest → (slice_index rest 0 == 61) ≡ false → IsSoundBody (60 ∷ rest)
 sound_of [] h other = absurd (let e = h.ends_at 1 in cc)
 sound_of (b ∷ more) h other = record {
-    second = b;
-    more = more;
-    is = refl;
-    other = other;
-    limit = h.limit;
-    ends = h.ends_at 1 ∙ ap (λ n. Ok n) (let e : 1 + length (b ∷ more) ≡ length (60 ∷ b ∷ more) = omega arith in e);
-  }
+  second = b;
+  more = more;
+  is = refl;
+  other = other;
+  limit = h.limit;
+  ends = h.ends_at 1 ∙ ap (λ n. Ok n) (let e : 1 + length (b ∷ more) ≡ length (60 ∷ b ∷ more) = omega arith in e);
+}
 
 module _ (aliases : List Alias) (known : AreSoundAliases aliases) where
   body_by : (room : ℕ) (text : List ℕ) (s r : Place) → IsUtf8 s.bytes → (h : IsBody aliases room text s r)

@@ -27,7 +27,7 @@ use Rattle.round_trip.proofs.SpelledAttributes.{Fine, at_same, entry_name_fine}
 use Rattle.round_trip.proofs.SoundAttributes.{attr_sound}
 
 module _ (aliases : List Alias) (ready : AreReady aliases) where
--- ---- dictionaries
+  -- ---- dictionaries
 
   abbrev IsPlacedFine : Placed → Type 0
   IsPlacedFine e = AreBytes e.0 × IsSoundAttr e.1.1
@@ -90,7 +90,7 @@ module _ (aliases : List Alias) (ready : AreReady aliases) where
       let (fine, e1) = dictionary_fine o.inner es o.from o.to (at_same s o.from e0 utf8) o.inside in
       (fine, mark_text k.Greater o.to r o.right ∙ e1 ∙ e0)
 
--- ---- the function type
+  -- ---- the function type
 
   pub operand_types_fine : (room : ℕ) (ts : List Ty) (s r : Place) → IsUtf8 s.bytes → AreOperandTypes aliases room s ts r → Fine (AllByRecursion IsSoundTy ts) s r
   operand_types_fine room ts s r utf8 h =

@@ -109,15 +109,15 @@ narrow_arguments room most (xs ∷ args) h few = (narrow_tys room (tys (argument
 
 narrow_row : (rows : List Row) (room : ℕ) (vs : List Val) (l : Laid) → room ≤ max_open → IsSoundLaid l → AllByRecursion (λ v. IfSome (value_type rows v) IsSoundTy) vs → IsRowWithin rows room (row_with vs l) → IsPrintableRow rows room (row_with vs l)
 narrow_row rows room vs l most s typed few = record {
-    fits = few.fits;
-    name = s.head.name;
-    named = s.head.named;
-    operands = narrow_operands rows (room - 1) (omega (arith, most)) vs typed few.operands;
-    results = narrow_tys (if stands_bare (tys l.head.result_types) then room else room - 1) (tys l.head.result_types) (by_bare (stands_bare (tys l.head.result_types))) s.head.result_types few.results;
-    properties = narrow_entries (room - 2) (entries (map entry_pair l.head.props)) (omega (arith, most)) s.head.props few.properties;
-    attributes = narrow_entries (room - 1) (entries (map entry_pair l.head.attrs)) (omega (arith, most)) s.head.attrs few.attributes;
-    arguments = narrow_arguments (room - 3) (omega (arith, most)) l.arguments s.arguments few.arguments;
-  }
+  fits = few.fits;
+  name = s.head.name;
+  named = s.head.named;
+  operands = narrow_operands rows (room - 1) (omega (arith, most)) vs typed few.operands;
+  results = narrow_tys (if stands_bare (tys l.head.result_types) then room else room - 1) (tys l.head.result_types) (by_bare (stands_bare (tys l.head.result_types))) s.head.result_types few.results;
+  properties = narrow_entries (room - 2) (entries (map entry_pair l.head.props)) (omega (arith, most)) s.head.props few.properties;
+  attributes = narrow_entries (room - 1) (entries (map entry_pair l.head.attrs)) (omega (arith, most)) s.head.attrs few.attributes;
+  arguments = narrow_arguments (room - 3) (omega (arith, most)) l.arguments s.arguments few.arguments;
+}
   where
     by_bare : (b : Bool) → (if b then room else room - 1) ≤ max_open
     by_bare true = most
@@ -155,14 +155,17 @@ module _ (o : Operation) (none : operation_fault (laid_operation 0 None o) 0 Non
 -- ---- modules
 
 implied_sound : (os : List Operation) → AreSoundOperations (operations os) → IsSoundOperation (implied_module os)
-implied_sound os s = (record {
+implied_sound os s = (
+  record {
     name = (omega arith, (omega arith, (omega arith, (omega arith, (omega arith, (omega arith, (omega arith, (omega arith, (omega arith, (omega arith, (omega arith, (omega arith, (omega arith, (omega arith, tt))))))))))))));
     named = omega arith;
     operand_types = tt;
     result_types = tt;
     props = tt;
     attrs = tt;
-  }, (tt, s, tt))
+  },
+  (tt, s, tt),
+)
 
 module_sound : (os : List Operation) → AreSoundOperations (operations os) → IsSoundOperation (module_of os)
 module_sound [] s = implied_sound [] s
