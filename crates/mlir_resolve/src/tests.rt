@@ -208,11 +208,71 @@ fn modules_have_faults_more(alloc: Global) -> bool {
         )
 }
 
+fn the_first_of_two_faults(alloc: Global) -> bool {
+    has_fault(
+        alloc,
+        b"%x = \"t.z\"() : () -> i32\n\"t.b\"(%x#3, %y) : (i32, i32) -> ()",
+        ModKind::ResultIndex,
+        31,
+    ) && has_fault(
+        alloc,
+        b"%x = \"t.z\"() : () -> i32\n\"t.b\"(%y, %x#3) : (i32, i32) -> ()",
+        ModKind::Undefined,
+        31,
+    ) && has_fault(
+        alloc,
+        b"%x = \"t.a\"(%x, %y) : (i32, i32) -> i32",
+        ModKind::NotVisible,
+        11,
+    ) && has_fault(
+        alloc,
+        b"%x = \"t.z\"() : () -> i32\n\"t.b\"(%x, %x) : (i64, i8) -> ()",
+        ModKind::TypeDiffers,
+        31,
+    ) && has_fault(
+        alloc,
+        b"\"t.b\"() <{m}> {m} : (i32) -> ()",
+        ModKind::CountDiffers,
+        20,
+    ) && has_fault(
+        alloc,
+        b"%x = \"t.z\"() : () -> i32\n\"t.b\"(%x) ({\n\"t.c\"(%q) : (i32) -> ()\n}) : (i64) -> ()",
+        ModKind::TypeDiffers,
+        31,
+    ) && has_fault(
+        alloc,
+        b"\"t.a\"() ({\n^b(%x : i32, %x : i32):\n\"t.b\"(%y) : (i32) -> ()\n}) : () -> ()",
+        ModKind::Redefined,
+        24,
+    ) && has_fault(
+        alloc,
+        b"\"t.a\"() ({\n\"t.b\"(%y) : (i32) -> ()\n}, {\n^b(%x : i32, %x : i32):\n}) : () -> ()",
+        ModKind::Undefined,
+        17,
+    ) && has_fault(
+        alloc,
+        b"%x, %x, %x = \"t.a\"() : () -> (i32, i32, i32)",
+        ModKind::Redefined,
+        4,
+    ) && has_fault(
+        alloc,
+        b"\"t.a\"(%x) : (i32) -> ()\n\"t.b\"() <{m}> {m} : () -> ()",
+        ModKind::Undefined,
+        6,
+    ) && has_fault(
+        alloc,
+        b"\"t.b\"() <{m}> {m} : () -> ()\n\"t.a\"(%x) : (i32) -> ()",
+        ModKind::PropAndAttr,
+        15,
+    )
+}
+
 #[test]
 fn faults(rt: HostRuntime) {
     let alloc = rt.alloc();
     assert!(rt; modules_have_faults(alloc));
     assert!(rt; modules_have_faults_more(alloc));
+    assert!(rt; the_first_of_two_faults(alloc));
 }
 
 fn row(
