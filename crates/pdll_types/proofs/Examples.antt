@@ -11,7 +11,7 @@ use Rattle.pdll_types.specs.Kinds.{is_taken}
 use Rattle.pdll_types.specs.Signatures.{kind_of_refs, declared}
 use Rattle.pdll_types.specs.Mentions.{mentions, of_pattern, of_stmt, of_let, of_expr, of_all_refs}
 use Rattle.pdll_types.specs.Sight.{sight_behind, words_behind}
-use Rattle.pdll_types.specs.Accepted.{found_in, undefined_places, two_ranges_places, faults_of, first_fault, expression_kinds, root_numbers}
+use Rattle.pdll_types.specs.Accepted.{found_in, undefined_places, two_ranges_places, faults_of, decl_fault, expression_kinds, root_numbers}
 
 -- `Op` takes every operation, and `Op<t.a>` only one that is known to be so.
 every_name : is_taken (Row None) (Row (Some (codes "t.a"))) ≡ true
@@ -49,13 +49,15 @@ unfolding found_in mentions of_pattern of_stmt of_expr of_all_refs kind_of_refs 
 second_range = refl
 
 -- `let x = op<t.a>; erase x;`: the kinds are known by the name, and the root is the second expression.
-abbrev erases_named : PatFile
-erases_named = file (pattern (stmt 10 (let_stmt (record { at = 14; text = codes "x" }) [] (Some (named_operation 18)))
-    ∷ stmt 27 (erase_stmt (used 33 (codes "x"))) ∷ []) 36)
+abbrev erases_one : Decl
+erases_one = pattern (stmt 10 (let_stmt (record { at = 14; text = codes "x" }) [] (Some (named_operation 18))) ∷ stmt 27 (erase_stmt (used 33 (codes "x"))) ∷ []) 36
 
-is_accepted : first_fault erases_named ≡ None
-unfolding first_fault faults_of declared found_in mentions of_pattern of_stmt of_let of_expr of_all_refs kind_of_refs sight_behind words_behind
-is_accepted = refl
+abbrev erases_named : PatFile
+erases_named = file erases_one
+
+has_no_fault : decl_fault [] erases_one ≡ None
+unfolding faults_of found_in mentions of_pattern of_stmt of_let of_expr of_all_refs kind_of_refs sight_behind words_behind
+has_no_fault = refl
 
 its_kinds : expression_kinds erases_named ≡ Row (Some (codes "t.a")) ∷ Row (Some (codes "t.a")) ∷ []
 unfolding expression_kinds declared found_in mentions of_pattern of_stmt of_let of_expr of_all_refs kind_of_refs sight_behind words_behind

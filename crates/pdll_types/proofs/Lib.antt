@@ -10,3 +10,7 @@ pub mod Noting
 pub mod Steps
 pub mod Utf8
 pub mod WholeFiles
+pub mod Opening
+pub mod Nexts
+pub mod Exclusive
+pub mod determined

@@ -1,5 +1,5 @@
 -- One more item of a list in a tree.
-use Rattle.std.proofs.Common.{◌≡◌, ℕ, zero, suc, false, ◌+◌, ◌<◌, ◌==◌, List, [], ◌∷◌, length, get_or, drop, refl, sym, ap, ◌∙◌, arith, add-one}
+use Rattle.std.proofs.Common.{◌≡◌, ℕ, zero, suc, false, ◌+◌, ◌<◌, ◌≤◌, ◌==◌, List, [], ◌∷◌, length, get_or, drop, refl, sym, ap, ◌∙◌, arith, add-one}
 use Rattle.std.proofs.lemmas.Bool.Decides.{nat_tests}
 use Rattle.pdll_syntax.specs.ExprTree.{Expr, expr_then, exprs, Entry, entry_then, entries, Ref, Refs, no_refs, ref_then, refs, MaybeExpr, no_expr}
 use Rattle.pdll_syntax.specs.StmtTree.{Stmt, stmt_then, stmts}
@@ -69,3 +69,10 @@ return_last (a ∷ []) zero s h is = ap is_return (sym is)
 return_last (a ∷ []) (suc i) s h is = absurd (omega arith)
 return_last (a ∷ b ∷ ss) zero s h is = absurd (omega arith)
 return_last (a ∷ b ∷ ss) (suc i) s h is = return_last (b ∷ ss) i s (omega arith) is
+
+-- nothing stands behind the last item
+pub none_left : {A : Type 0} (xs : List A) (i : ℕ) → length xs ≤ i → drop i xs ≡ []
+none_left [] zero h = refl
+none_left [] (suc i) h = refl
+none_left (x ∷ xs) zero h = absurd (omega arith)
+none_left (x ∷ xs) (suc i) h = none_left xs i (omega arith)

@@ -1,12 +1,17 @@
 -- When a pattern file is accepted, its first fault, and the kinds of its expressions and its roots (MLIR's document "PDLL -
 -- PDL Language"). The order of faults is this project's.
-use Rattle.std.specs.Prelude.{◌≡◌, ℕ, ◌+◌, Bool, true, false, ◌&&◌, ◌||◌, ◌==◌, nat_lt, if◌then◌else◌, List, [], ◌∷◌, ◌++◌, map, flat_map, Option, Some, None}
-use Rattle.std.specs.Option.{option_or, unwrap_or}
+use Rattle.std.specs.Prelude.{◌≡◌, ◌⊎◌, ℕ, ◌+◌, Bool, true, false, ◌&&◌, ◌||◌, ◌==◌, nat_lt, if◌then◌else◌, List, [], ◌∷◌, ◌++◌, map, flat_map, Option, Some, None, ⊤}
+use Rattle.std.specs.Option.{unwrap_or}
 use Rattle.pdll_syntax.specs.declared.fault.PatFault.{PatFault}
 use Rattle.pdll_syntax.specs.declared.fault.PatKind.{PatKind}
 use Rattle.pdll_syntax.specs.declared.fault.PatKind.TheVariants.{NotBuilt, TooLong, NotUtf8, BadByte, BadString, Syntax, CppBody, Include, TooMany, BenefitRange, Undefined, Redefined, WrongKind, WrongArity, UnknownNative, BadLiteral, TwoRanges, MultiRoot, Undetermined, NoResultTypes, BadRoot, AfterRoot, WrongPart}
 use Rattle.pdll_syntax.specs.declared.file.Decl.{Decl}
 use Rattle.pdll_syntax.specs.declared.file.PatFile.{PatFile}
+use Rattle.pdll_syntax.specs.declared.file.Decl.TheVariants as decl
+use Rattle.native_set.specs.declared.native.Kind.{Kind as PlainKind}
+use Rattle.native_set.specs.declared.native.Kind.TheVariants as kind
+use Rattle.rewrite_model.specs.Size.{is_too_large}
+use Rattle.rewrite_model.specs.Own.{Own, own, IsOpen, IsDeterminedAlone}
 use Rattle.pdll_types.specs.declared.kind.Kind.{Kind}
 use Rattle.pdll_types.specs.declared.kind.Kind.TheVariants.{Call}
 use Rattle.pdll_types.specs.Kinds.{Asked, root}
@@ -126,12 +131,55 @@ first_of_faults (f ∷ fs) = first_with f (first_of_faults fs)
 abbrev pub decl_fault : List Declared → Decl → Option PatFault
 decl_fault c d = first_of_faults (faults_of c d)
 
+-- ---- what a declaration doesn't determine, and how large it is
+
+-- An operation that isn't determined would be another root.
+abbrev pub open_kind : PlainKind → PatKind
+open_kind kind.Op = MultiRoot
+open_kind k = Undetermined
+
+-- A fault of a number that isn't determined.
+pub record IsOpenFault (o : Own) (f : PatFault) : Type 0 where
+  pub number : ℕ
+  pub plain : PlainKind
+  pub is_open : IsOpen o number plain f.at
+  pub is_kind : f.kind ≡ open_kind plain
+
+-- The first of these.
+pub record IsFirstOpen (o : Own) (f : PatFault) : Type 0 where
+  pub is_one : IsOpenFault o f
+  pub is_first : (g : PatFault) → IsOpenFault o g → is_before g f ≡ false
+
+-- where a declaration begins
+abbrev pub decl_place : Decl → ℕ
+decl_place (decl.Pattern p) = p.at
+decl_place (decl.Constraint c) = c.at
+decl_place (decl.Rewrite c) = c.at
+
+-- A declaration behind these, the last one first, that has no fault.
+pub record IsSound (c : List Declared) (earlier : List Decl) (d : Decl) : Type 0 where
+  pub names : decl_fault c d ≡ None
+  pub determined : IsDeterminedAlone (own earlier d)
+  pub small : is_too_large earlier d ≡ false
+
+-- Names, kinds, literals and parts come first, then what isn't determined, then the size.
+pub data IsFault (c : List Declared) (earlier : List Decl) (d : Decl) (f : PatFault) : Type 0 where
+  of_names : decl_fault c d ≡ Some f → IsFault c earlier d f
+  of_numbers : decl_fault c d ≡ None → IsFirstOpen (own earlier d) f → IsFault c earlier d f
+  of_size : decl_fault c d ≡ None → IsDeterminedAlone (own earlier d) → is_too_large earlier d ≡ true → f ≡ record { kind = TooMany; at = decl_place d } → IsFault c earlier d f
+
 -- ---- declarations one behind the other
 
--- The first fault of the first declaration that has one.
-abbrev pub first_fault_of : List Declared → List Decl → Option PatFault
-first_fault_of c [] = None
-first_fault_of c (d ∷ ds) = option_or (decl_fault c d) (first_fault_of (declared c d) ds)
+abbrev pub AreSound : List Declared → List Decl → List Decl → Type 0
+AreSound c earlier [] = ⊤
+AreSound c earlier (d ∷ ds) = IsSound c earlier d × AreSound (declared c d) (d ∷ earlier) ds
+
+-- The fault of the first declaration that has one.
+abbrev pub IsFirstFaultOf : List Declared → List Decl → List Decl → PatFault → Type 0
+IsFirstFaultOf c earlier [] f = ⊥
+IsFirstFaultOf c earlier (d ∷ ds) f = IsFault c earlier d f ⊎ (IsSound c earlier d × IsFirstFaultOf (declared c d) (d ∷ earlier) ds f)
+
+-- ---- kinds and roots
 
 -- The kind of the expression that is used.
 abbrev pub kind_at : List Declared → Seen → Mention → List Kind
@@ -163,11 +211,11 @@ numbers_of n (b ∷ bs) = if b then n ∷ numbers_of (n + 1) bs else numbers_of 
 
 -- ---- files
 
-unfoldable pub first_fault : PatFile → Option PatFault
-first_fault file = first_fault_of [] file.decls
+unfoldable pub IsAccepted : PatFile → Type 0
+IsAccepted file = AreSound [] [] file.decls
 
-abbrev pub IsAccepted : PatFile → Type 0
-IsAccepted file = first_fault file ≡ None
+unfoldable pub IsFirstFault : PatFile → PatFault → Type 0
+IsFirstFault file f = IsFirstFaultOf [] [] file.decls f
 
 -- The kinds of all expressions of a file, ordered by their first token, and at one token the longer first.
 unfoldable pub expression_kinds : PatFile → List Kind

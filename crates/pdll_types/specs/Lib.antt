@@ -11,3 +11,6 @@ pub mod Codes
 pub mod Asking
 pub mod Walk
 pub mod Judged
+pub mod Open
+pub mod Earlier
+pub mod Laws

@@ -16,7 +16,7 @@ use Rattle.pdll_types.specs.Names.{undefined_at, redefined_at, unknown_native_at
 use Rattle.pdll_types.specs.KindFaults.{wrong_kind_at, wrong_arity_at, two_ranges_at}
 use Rattle.pdll_types.specs.Literals.{bad_literal_at}
 use Rattle.pdll_types.specs.Parts.{no_result_types_at, bad_root_at, after_root_at, wrong_part_at}
-use Rattle.pdll_types.specs.Accepted.{faults, is_before, kind_at, root_at, numbers_of}
+use Rattle.pdll_types.specs.Accepted.{faults, is_before, kind_at, root_at, numbers_of, AreSound, IsFirstFaultOf}
 
 -- All faults of one mention.
 unfoldable pub faults_at : List Declared → Seen → Mention → List PatFault
@@ -71,24 +71,21 @@ afresh w = record w { sight = []; words = []; least = None }
 unfoldable pub decl_walked : List Declared → Decl → Walk → Walk
 decl_walked c d w = walked c (mentions c d) (afresh w)
 
-abbrev pub unless : Option PatFault → Result Walk PatFault → Result Walk PatFault
-unless None r = r
-unless (Some f) r = Err f
-
--- Behind declarations, up to the first that has a fault.
-abbrev pub decls_walked : List Declared → List Decl → Walk → Result Walk PatFault
-decls_walked c [] w = Ok w
-decls_walked c (d ∷ ds) w = unless (decl_walked c d w).least (decls_walked (declared c d) ds (decl_walked c d w))
+-- Behind all of these declarations.
+abbrev pub all_walked : List Declared → List Decl → Walk → Walk
+all_walked c [] w = w
+all_walked c (d ∷ ds) w = all_walked (declared c d) ds (decl_walked c d w)
 
 -- What is known before the first declaration.
 abbrev pub start : Walk
 start = record { sight = []; words = []; kinds = []; roots = []; least = None }
 
--- What a step that may be refused leaves, unless memory fails.
-abbrev pub Leaves : Result Walk PatFault → Result (Unit {0}) (Refusal PatFault) → Walk → Type 0
-Leaves outcome (Ok _) new = outcome ≡ Ok new
-Leaves outcome (Err (refusal.Fault f)) new = outcome ≡ Err f
-Leaves outcome (Err refusal.NoMemory) new = Unit {0}
+-- What the way through declarations tells, which stand behind others: what is known behind them, where they have no fault,
+-- or the first fault, unless memory fails.
+abbrev pub Tells : List Declared → List Decl → List Decl → Walk → Result (Unit {0}) (Refusal PatFault) → Walk → Type 0
+Tells c earlier ds old (Ok _) new = AreSound c earlier ds × (new ≡ all_walked c ds old)
+Tells c earlier ds old (Err (refusal.Fault f)) new = IsFirstFaultOf c earlier ds f
+Tells c earlier ds old (Err refusal.NoMemory) new = Unit {0}
 
 -- ---- numbers behind an expression
 

@@ -28,226 +28,504 @@ fn is_accepted(alloc: Global, text: &[u8]) -> bool {
     check(alloc, &file).is_ok()
 }
 
-fn undefined_names_are_refused(alloc: Global) -> bool {
-    is_fault(
-        alloc,
-        b"Pattern { let a = x; erase op<t.a>; }",
-        PatKind::Undefined,
-        18,
-    ) && is_fault(
-        alloc,
-        b"Pattern { let x: Value = x; erase op<t.a>; }",
-        PatKind::Undefined,
-        25,
-    ) && is_fault(
-        alloc,
-        b"Pattern { erase op<t.a>(_); }",
-        PatKind::Undefined,
-        24,
-    ) && is_fault(
-        alloc,
-        b"Rewrite R(a: Attr) { } Pattern { erase op<t.a> {k = a: R}; }",
-        PatKind::Undefined,
-        55,
-    ) && is_fault(
-        alloc,
-        b"Pattern { C(); erase op<t.a>; } Constraint C() { }",
-        PatKind::Undefined,
-        10,
-    )
-}
-
-#[test]
-fn undefined_names(rt: HostRuntime) {
-    let alloc = rt.alloc();
-    assert!(rt; undefined_names_are_refused(alloc));
-}
-
-fn names_twice_are_refused(alloc: Global) -> bool {
-    is_fault(
-        alloc,
-        b"Constraint C(a: Attr, a: Op) { }",
-        PatKind::Redefined,
-        22,
-    ) && is_fault(
-        alloc,
-        b"Pattern { let a: Attr; erase op<t.a> {k = a: Attr}; }",
-        PatKind::Redefined,
-        42,
-    ) && is_fault(
-        alloc,
-        b"Pattern A with benefit(1), benefit(2) => erase op<t.a>;",
-        PatKind::Redefined,
-        27,
-    ) && is_fault(
-        alloc,
-        b"Pattern { erase op<t.a> {k, \"k\"}; }",
-        PatKind::Redefined,
-        28,
-    ) && is_fault(
-        alloc,
-        b"Pattern A => erase op<t.a>; Constraint A() { }",
-        PatKind::Redefined,
-        39,
-    )
-}
-
-#[test]
-fn names_twice(rt: HostRuntime) {
-    let alloc = rt.alloc();
-    assert!(rt; names_twice_are_refused(alloc));
-}
-
-fn kinds_are_refused(alloc: Global) -> bool {
-    is_fault(
-        alloc,
-        b"Pattern { erase op<t.a>(a: Attr); }",
-        PatKind::WrongKind,
-        24,
-    ) && is_fault(
-        alloc,
-        b"Pattern { erase op<t.a>(a: [Value, Value]); }",
-        PatKind::WrongKind,
-        35,
-    ) && is_fault(
-        alloc,
-        b"Constraint C(a: Op<t.b>) { } Pattern { let o = op<t.a>; C(o); erase o; }",
-        PatKind::WrongKind,
-        58,
-    ) && is_fault(
-        alloc,
-        b"Constraint C(a: Attr) => C2(a);",
-        PatKind::Undefined,
-        25,
-    ) && is_fault(
-        alloc,
-        b"Constraint C(a: Attr) => a;",
-        PatKind::WrongKind,
-        25,
-    ) && is_fault(
-        alloc,
-        b"Constraint C(a: Attr, b: Attr) { } Pattern { C(a: Attr); erase op<t.a>; }",
-        PatKind::WrongArity,
-        45,
-    ) && is_fault(
-        alloc,
-        b"Constraint C(a: Attr, b: Attr) { } Pattern { erase op<t.a> {k = a: C}; }",
-        PatKind::WrongArity,
-        67,
-    ) && is_fault(
-        alloc,
-        b"Constraint Foo(v: Value);",
-        PatKind::UnknownNative,
-        11,
-    ) && is_fault(
-        alloc,
-        b"Pattern { erase op<t.a> {k = attr<\"!\">}; }",
-        PatKind::BadLiteral,
-        34,
-    ) && is_fault(
-        alloc,
-        b"Pattern { erase op<t.a>(a: ValueRange, b: ValueRange); }",
-        PatKind::TwoRanges,
-        39,
-    )
-}
-
-#[test]
-fn kinds(rt: HostRuntime) {
-    let alloc = rt.alloc();
-    assert!(rt; kinds_are_refused(alloc));
-}
-
-fn parts_are_refused(alloc: Global) -> bool {
-    is_fault(
-        alloc,
-        b"Pattern { replace op<t.a> with (op<t.b>); }",
-        PatKind::NoResultTypes,
-        32,
-    ) && is_fault(alloc, b"Pattern { }", PatKind::BadRoot, 10)
-        && is_fault(alloc, b"Pattern { erase v: Value; }", PatKind::BadRoot, 16)
+fn undefined_names(alloc: Global) -> bool {
+    let kind = PatKind::Undefined;
+    is_fault(alloc, b"Pattern { let a = x; erase op<t.a>; }", kind, 18)
         && is_fault(
             alloc,
-            b"Pattern { erase op<t.a>; let a: Attr; erase op<t.b>; }",
-            PatKind::AfterRoot,
+            b"Constraint C(a: Attr) { } Pattern { erase op<t.a> {k = a}; }",
+            kind,
+            55,
+        )
+        && is_fault(
+            alloc,
+            b"Pattern { let a = x; let x = op<t.b>; erase op<t.a>; }",
+            kind,
+            18,
+        )
+        && is_fault(
+            alloc,
+            b"Pattern { C(); erase op<t.a>; } Constraint C() { }",
+            kind,
+            10,
+        )
+        && is_fault(alloc, b"Pattern { erase op<t.a>(_); }", kind, 24)
+        && is_fault(alloc, b"Constraint C(a: Attr) => C2(a);", kind, 25)
+        && is_fault(
+            alloc,
+            b"Pattern A => erase op<t.a>; Pattern { A(); erase op<t.a>; }",
+            kind,
+            38,
+        )
+}
+
+fn undefined_names_too(alloc: Global) -> bool {
+    let kind = PatKind::Undefined;
+    is_fault(alloc, b"Constraint C(a: Attr) { C(a); }", kind, 24)
+        && is_fault(alloc, b"Pattern { erase op<t.a>(v: C); }", kind, 27)
+        && is_fault(
+            alloc,
+            b"Rewrite R(a: Attr) { } Pattern { erase op<t.a> {k = a: R}; }",
+            kind,
+            55,
+        )
+        && is_fault(
+            alloc,
+            b"Pattern { let x: Value = x; erase op<t.a>; }",
+            kind,
             25,
         )
+        && is_fault(alloc, b"Pattern { let x = op<t.a>(x); erase x; }", kind, 26)
+        && is_fault(alloc, b"Pattern { erase op<t.a>(v: Value<v>); }", kind, 33)
+        && is_fault(alloc, b"Pattern { erase op<t.a>(x, a: Attr); }", kind, 24)
         && is_fault(
             alloc,
-            b"Rewrite R(a: Attr) -> Attr { return a; } Pattern { erase op<t.a> {k = R(b: Attr)}; }",
-            PatKind::WrongPart,
-            70,
+            b"Pattern { let v: Value; erase op<t.a> {k = x}; }",
+            kind,
+            43,
+        )
+}
+
+fn names_twice(alloc: Global) -> bool {
+    let kind = PatKind::Redefined;
+    is_fault(
+        alloc,
+        b"Pattern A => erase op<t.a>; Constraint A() { }",
+        kind,
+        39,
+    ) && is_fault(alloc, b"Constraint C(a: Attr, a: Op) { }", kind, 22)
+        && is_fault(
+            alloc,
+            b"Pattern { let a: Attr; erase op<t.a> {k = a: Attr}; }",
+            kind,
+            42,
         )
         && is_fault(
             alloc,
-            b"Rewrite R(a: Attr) -> Attr { }",
-            PatKind::WrongPart,
+            b"Pattern A with benefit(1), benefit(2) => erase op<t.a>;",
+            kind,
+            27,
+        )
+        && is_fault(
+            alloc,
+            b"Pattern A with recursion, recursion => erase op<t.a>;",
+            kind,
+            26,
+        )
+        && is_fault(alloc, b"Pattern { erase op<t.a> {k, \"k\"}; }", kind, 28)
+}
+
+fn wrong_kinds(alloc: Global) -> bool {
+    let kind = PatKind::WrongKind;
+    is_fault(alloc, b"Pattern { erase op<t.a>(a: Attr); }", kind, 24)
+        && is_fault(alloc, b"Pattern { erase op<t.a> -> (v: Value); }", kind, 28)
+        && is_fault(
+            alloc,
+            b"Pattern { erase op<t.a> {k = v: Value}; }",
+            kind,
             29,
         )
         && is_fault(
             alloc,
-            b"Rewrite R(a: [Attr, Attr]) { }",
-            PatKind::WrongPart,
+            b"Pattern { let v: Value; erase op<t.a>(v.0); }",
+            kind,
+            38,
+        )
+        && is_fault(
+            alloc,
+            b"Constraint C(a: Op<t.b>) { } Pattern { let o = op<t.a>; C(o); erase o; }",
+            kind,
+            58,
+        )
+        && is_fault(
+            alloc,
+            b"Pattern { let v: Value = attr<\"1 : i8\">; erase op<t.a>(v); }",
+            kind,
+            25,
+        )
+        && is_fault(alloc, b"Rewrite R(a: Attr) -> Type { return a; }", kind, 36)
+        && is_fault(
+            alloc,
+            b"Pattern { erase op<t.a> {k = a: Attr<b: Attr>}; }",
+            kind,
+            37,
+        )
+}
+
+fn wrong_kinds_too(alloc: Global) -> bool {
+    let kind = PatKind::WrongKind;
+    is_fault(
+        alloc,
+        b"Pattern { erase op<t.a>(v: Value<b: TypeRange>); }",
+        kind,
+        33,
+    ) && is_fault(
+        alloc,
+        b"Pattern { erase op<t.a>(v: ValueRange<b: Type>); }",
+        kind,
+        38,
+    ) && is_fault(
+        alloc,
+        b"Pattern { erase op<t.a>(a: [Value, Value]); }",
+        kind,
+        35,
+    ) && is_fault(
+        alloc,
+        b"Pattern { erase op<t.a>(a: [Value, Attr]); }",
+        kind,
+        35,
+    ) && is_fault(alloc, b"Constraint C(a: Attr) => a;", kind, 25)
+        && is_fault(
+            alloc,
+            b"Rewrite R(a: Attr) { } Constraint C(a: Attr) => R(a);",
+            kind,
+            48,
+        )
+        && is_fault(
+            alloc,
+            b"Constraint C(a: Attr) { } Pattern { erase op<t.a>(v: [Value, C]); }",
+            kind,
+            61,
+        )
+        && is_fault(alloc, b"Pattern { erase op<t.a>(a: Attr, x); }", kind, 24)
+        && is_fault(
+            alloc,
+            b"Rewrite R(a: Type) -> Attr { return attr<\"1 : i8\">; } Pattern { erase op<t.a>(R(t: Type)); }",
+            kind,
+            78,
+        )
+}
+
+fn wrong_arities(alloc: Global) -> bool {
+    let kind = PatKind::WrongArity;
+    is_fault(
+        alloc,
+        b"Constraint C(a: Attr, b: Attr) { } Pattern { C(a: Attr); erase op<t.a>; }",
+        kind,
+        45,
+    ) && is_fault(
+        alloc,
+        b"Constraint C(a: Attr) { } Pattern { C(a: Attr, b: Attr); erase op<t.a>; }",
+        kind,
+        36,
+    ) && is_fault(
+        alloc,
+        b"Constraint C(a: Attr, b: Attr) { } Pattern { erase op<t.a> {k = a: C}; }",
+        kind,
+        67,
+    ) && is_fault(
+        alloc,
+        b"Rewrite R(a: Attr) { } Pattern { R(); erase op<t.a>; }",
+        kind,
+        33,
+    )
+}
+
+fn unknown_natives(alloc: Global) -> bool {
+    let kind = PatKind::UnknownNative;
+    is_fault(alloc, b"Constraint Foo(v: Value);", kind, 11)
+        && is_fault(alloc, b"Constraint IsInt(v: Value);", kind, 11)
+        && is_fault(alloc, b"Rewrite SubInt(a: Attr, b: Attr) -> Attr;", kind, 8)
+        && is_fault(alloc, b"Rewrite AddInt(a: Attr) -> Attr;", kind, 8)
+        && is_fault(alloc, b"Rewrite NegInt(a: Attr);", kind, 8)
+}
+
+fn bad_literals(alloc: Global) -> bool {
+    let kind = PatKind::BadLiteral;
+    is_fault(
+        alloc,
+        b"Pattern { erase op<t.a> {k = attr<\"!\">}; }",
+        kind,
+        34,
+    ) && is_fault(
+        alloc,
+        b"Pattern { erase op<t.a> -> (type<\"1\">); }",
+        kind,
+        33,
+    ) && is_fault(
+        alloc,
+        b"Pattern { erase op<t.a> {k = attr<\"\\22\\FF\\22\">}; }",
+        kind,
+        34,
+    ) && is_fault(
+        alloc,
+        b"Pattern { erase op<t.a> {k = attr<\"#a\">}; }",
+        kind,
+        34,
+    ) && is_fault(
+        alloc,
+        b"Pattern { erase op<t.a> -> (type<\"!a\">); }",
+        kind,
+        33,
+    )
+}
+
+fn two_ranges(alloc: Global) -> bool {
+    let kind = PatKind::TwoRanges;
+    is_fault(
+        alloc,
+        b"Pattern { erase op<t.a>(a: ValueRange, b: ValueRange); }",
+        kind,
+        39,
+    ) && is_fault(
+        alloc,
+        b"Pattern { erase op<t.a> -> (a: TypeRange, b: TypeRange); }",
+        kind,
+        42,
+    )
+}
+
+fn types_left_out(alloc: Global) -> bool {
+    let kind = PatKind::NoResultTypes;
+    is_fault(alloc, b"Rewrite R(a: Attr) { op<t.b>; }", kind, 21)
+        && is_fault(
+            alloc,
+            b"Pattern { replace op<t.a> with op<t.b>(op<t.c>); }",
+            kind,
+            39,
+        )
+        && is_fault(
+            alloc,
+            b"Pattern { replace op<t.a> with (op<t.b>); }",
+            kind,
+            32,
+        )
+}
+
+fn bad_roots(alloc: Global) -> bool {
+    let kind = PatKind::BadRoot;
+    is_fault(alloc, b"Pattern { }", kind, 10)
+        && is_fault(alloc, b"Pattern { let a = op<t.a>; }", kind, 27)
+        && is_fault(alloc, b"Pattern { erase v: Value; }", kind, 16)
+        && is_fault(alloc, b"Pattern => erase v: Value;", kind, 17)
+        && is_fault(alloc, b"Pattern => let a: Attr;", kind, 11)
+}
+
+fn statements_behind_a_root(alloc: Global) -> bool {
+    let kind = PatKind::AfterRoot;
+    is_fault(
+        alloc,
+        b"Pattern { erase op<t.a>; let a: Attr; erase op<t.b>; }",
+        kind,
+        25,
+    ) && is_fault(
+        alloc,
+        b"Pattern { erase op<t.a>; erase op<t.b>; }",
+        kind,
+        25,
+    ) && is_fault(
+        alloc,
+        b"Pattern { let v: Value; erase op<t.a>; let b: Attr; erase op<t.b>; }",
+        kind,
+        39,
+    )
+}
+
+fn wrong_parts(alloc: Global) -> bool {
+    let kind = PatKind::WrongPart;
+    is_fault(alloc, b"Constraint C(o: Op) { erase o; }", kind, 22)
+        && is_fault(alloc, b"Constraint C(o: Op) { return o; }", kind, 22)
+        && is_fault(
+            alloc,
+            b"Rewrite R(a: Attr) -> Attr { return a; } Pattern { erase op<t.a> {k = R(b: Attr)}; }",
+            kind,
+            70,
+        )
+        && is_fault(
+            alloc,
+            b"Constraint C(a: Attr) { } Rewrite R(a: Attr) { C(a); }",
+            kind,
+            47,
+        )
+        && is_fault(alloc, b"Rewrite R(a: Attr) { let b: Attr; }", kind, 25)
+        && is_fault(
+            alloc,
+            b"Rewrite R(o: Op) { replace o with (v: Value); }",
+            kind,
+            35,
+        )
+        && is_fault(
+            alloc,
+            b"Constraint C(a: Attr) { } Rewrite R(a: Attr) { let b: C = a; }",
+            kind,
+            54,
+        )
+        && is_fault(
+            alloc,
+            b"Rewrite R(o: Op) { let p: Op<t.b> = op<t.b> -> (); }",
+            kind,
+            26,
+        )
+}
+
+fn wrong_parts_too(alloc: Global) -> bool {
+    let kind = PatKind::WrongPart;
+    is_fault(alloc, b"Rewrite R(o: Op) { rewrite o with { }; }", kind, 19)
+        && is_fault(alloc, b"Rewrite R(a: [Attr, Attr]) { }", kind, 14)
+        && is_fault(alloc, b"Rewrite R(o: Op<t.b>) { }", kind, 13)
+        && is_fault(alloc, b"Constraint C(v: Value<t: Type>) { }", kind, 22)
+        && is_fault(
+            alloc,
+            b"Constraint C(v: Value) { let w: Value<t: Type> = v; }",
+            kind,
+            38,
+        )
+        && is_fault(alloc, b"Rewrite R(a: Attr) { return a; }", kind, 21)
+        && is_fault(
+            alloc,
+            b"Rewrite R(a: Attr) -> Attr { return a; return a; }",
+            kind,
+            29,
+        )
+        && is_fault(alloc, b"Rewrite R(a: Attr) -> Attr { }", kind, 29)
+        && is_fault(
+            alloc,
+            b"Rewrite R(a: Attr) -> Attr { let b = a; }",
+            kind,
+            40,
+        )
+}
+
+fn other_roots(alloc: Global) -> bool {
+    let kind = PatKind::MultiRoot;
+    is_fault(
+        alloc,
+        b"Pattern { let a = op<t.a>; erase op<t.b>; }",
+        kind,
+        18,
+    ) && is_fault(alloc, b"Pattern { let o: Op; erase op<t.b>; }", kind, 14)
+        && is_fault(
+            alloc,
+            b"Pattern { let a = op<t.a>(op<t.c>); erase op<t.b>; }",
+            kind,
+            18,
+        )
+        && is_fault(
+            alloc,
+            b"Constraint C(o: Op) { } Pattern { C(op<t.a>); erase op<t.b>; }",
+            kind,
+            36,
+        )
+        && is_fault(
+            alloc,
+            b"Constraint C(a: Attr) { let o = op<t.a>; }",
+            kind,
+            32,
+        )
+        && is_fault(
+            alloc,
+            b"Pattern { op<t.a>; erase op<t.b>() -> (); }",
+            kind,
+            10,
+        )
+}
+
+fn open_variables(alloc: Global) -> bool {
+    let kind = PatKind::Undetermined;
+    is_fault(alloc, b"Pattern { let v: Value; erase op<t.b>; }", kind, 14)
+        && is_fault(
+            alloc,
+            b"Constraint C(a: Attr) { } Pattern { C(_: Attr); erase op<t.b>; }",
+            kind,
+            38,
+        )
+        && is_fault(
+            alloc,
+            b"Constraint C(a: Attr) { } Pattern { C(a: Attr); erase op<t.b>; }",
+            kind,
+            38,
+        )
+        && is_fault(alloc, b"Constraint C(a: Attr) { let b: Attr; }", kind, 28)
+        && is_fault(
+            alloc,
+            b"Pattern { let v: Value; let a = op<t.a>; erase op<t.b>; }",
+            kind,
             14,
         )
         && is_fault(
             alloc,
-            b"Rewrite R(a: Attr) { let b: Attr; }",
-            PatKind::WrongPart,
-            25,
+            b"Pattern { let v: Value<t: Type>; erase op<t.b>; }",
+            kind,
+            14,
         )
 }
 
-#[test]
-fn parts(rt: HostRuntime) {
-    let alloc = rt.alloc();
-    assert!(rt; parts_are_refused(alloc));
-}
-
-fn first_of_two_faults_are_refused(alloc: Global) -> bool {
-    is_fault(
-        alloc,
-        b"Pattern { erase op<t.a>(x, a: Attr); }",
-        PatKind::Undefined,
-        24,
-    ) && is_fault(
-        alloc,
-        b"Pattern { erase op<t.a>(a: Attr, x); }",
-        PatKind::WrongKind,
-        24,
-    ) && is_fault(alloc, b"Pattern { let a = x; }", PatKind::Undefined, 18)
+// Each constraint calls the one before twice.
+fn large_declarations(alloc: Global) -> bool {
+    let twelve =
+        b"Constraint IsInt(a: Attr); Constraint C1(a: Attr) { IsInt(a); IsInt(a); } Constraint C2(a: Attr) { C1(a); C1(a); } Constraint C3(a: Attr) { C2(a); C2(a); } Constraint C4(a: Attr) { C3(a); C3(a); } Constraint C5(a: Attr) { C4(a); C4(a); } Constraint C6(a: Attr) { C5(a); C5(a); } Constraint C7(a: Attr) { C6(a); C6(a); } Constraint C8(a: Attr) { C7(a); C7(a); } Constraint C9(a: Attr) { C8(a); C8(a); } Constraint C10(a: Attr) { C9(a); C9(a); } Constraint C11(a: Attr) { C10(a); C10(a); } Constraint C12(a: Attr) { C11(a); C11(a); }";
+    is_fault(alloc, twelve, PatKind::TooMany, 488)
+        && is_accepted(alloc, twelve.get(..487).unwrap_or(b""))
 }
 
 #[test]
-fn first_of_two_faults(rt: HostRuntime) {
+fn faults_of_names_and_kinds(rt: HostRuntime) {
     let alloc = rt.alloc();
-    assert!(rt; first_of_two_faults_are_refused(alloc));
+    assert!(rt; undefined_names(alloc));
+    assert!(rt; undefined_names_too(alloc));
+    assert!(rt; names_twice(alloc));
+    assert!(rt; wrong_kinds(alloc));
+    assert!(rt; wrong_kinds_too(alloc));
+    assert!(rt; wrong_arities(alloc));
+    assert!(rt; unknown_natives(alloc));
+    assert!(rt; bad_literals(alloc));
+    assert!(rt; two_ranges(alloc));
+}
+
+#[test]
+fn faults_of_parts(rt: HostRuntime) {
+    let alloc = rt.alloc();
+    assert!(rt; types_left_out(alloc));
+    assert!(rt; bad_roots(alloc));
+    assert!(rt; statements_behind_a_root(alloc));
+    assert!(rt; wrong_parts(alloc));
+    assert!(rt; wrong_parts_too(alloc));
+}
+
+#[test]
+fn faults_behind_those(rt: HostRuntime) {
+    let alloc = rt.alloc();
+    assert!(rt; other_roots(alloc));
+    assert!(rt; open_variables(alloc));
+    assert!(rt; large_declarations(alloc));
+}
+
+fn files_are_accepted(alloc: Global) -> bool {
+    is_accepted(alloc, b"Pattern { replace op<t.a> with op<t.b>; }")
+        && is_accepted(alloc, b"Constraint IsInt(a: [Attr]);")
+        && is_accepted(
+            alloc,
+            b"Constraint C(a: Op<t.b>) { } Pattern { let o: C; C(o); erase o; }",
+        )
+        && is_accepted(
+            alloc,
+            b"Rewrite R(a: Attr) -> Attr { return a; } Pattern { rewrite op<t.a> {k = b: Attr} with { op<t.b> {k = R(b)} -> (); }; }",
+        )
+        && is_accepted(alloc, b"Pattern A with benefit(65534) => erase op<t.a>;")
+        && is_accepted(
+            alloc,
+            b"Pattern { erase op<t.a>(_: Value, _: Value); } Pattern { erase op<t.a>(_: Value, _: Value); }",
+        )
+        && is_accepted(
+            alloc,
+            b"Pattern A with benefit(1), recursion => erase op<t.a>;",
+        )
+        && is_accepted(
+            alloc,
+            b"Constraint C(o: Op, a: Attr) { let v = o.0; } Pattern { let i = op<t.b>(v: Value<t: Type>) {k = a: Attr}; C(i, a); erase op<t.a>(i); }",
+        )
 }
 
 #[test]
 fn accepted_files(rt: HostRuntime) {
-    let alloc = rt.alloc();
-    assert!(rt; is_accepted(alloc, b"Pattern { replace op<t.a> with op<t.b>; }"));
-    assert!(rt; is_accepted(alloc, b"Constraint IsInt(a: [Attr]);"));
-    assert!(rt;
-        is_accepted(
-            alloc,
-            b"Constraint C(a: Op<t.b>) { } Pattern { let o: C; C(o); erase o; }"
-        )
-    );
-    assert!(rt;
-        is_accepted(
-            alloc,
-            b"Rewrite R(a: Attr) -> Attr { return a; } Pattern { rewrite op<t.a> {k = b: Attr} with { op<t.b> {k = R(b)} -> (); }; }"
-        )
-    );
+    assert!(rt; files_are_accepted(rt.alloc()));
 }
 
 #[test]
 fn kinds_and_roots(rt: HostRuntime) {
     let alloc = rt.alloc();
     let text =
-        b"Constraint C(a: Attr) { } Pattern { let x = op<t.a>(v: Value).0; C(a: Attr); erase op<t.b>(x); }";
+        b"Constraint C(a: Attr) { } Pattern { let x = op<t.a>(v: Value).0; C(attr<\"unit\">); erase op<t.b>(x); }";
     let file = parse_patterns(alloc, text)
         .ok()
         .expect(&rt, "it is spelled");

@@ -1,7 +1,7 @@
 //! Pattern files that are accepted.
 
-ghost use Rattle.std.specs.Prelude.{◌≡◌, None};
-ghost use Rattle.pdll_types.specs.Accepted.{first_fault, expression_kinds, root_numbers};
+ghost use Rattle.std.specs.Prelude.{◌≡◌};
+ghost use Rattle.pdll_types.specs.Accepted.{IsAccepted, expression_kinds, root_numbers};
 
 use crate::kind::KindList;
 use pdll_syntax::file::PatFile;
@@ -18,7 +18,7 @@ pub struct Typed {
     pub kinds: KindList,
     /// The number among them of the root of each pattern.
     pub roots: IdList,
-    pub ghost accepted: { first_fault file ≡ None },
+    pub ghost accepted: { ∥ IsAccepted file ∥₁ },
     pub ghost own_kinds: { kinds ≡ expression_kinds file },
     pub ghost own_roots: { roots ≡ root_numbers file },
 }

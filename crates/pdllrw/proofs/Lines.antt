@@ -15,15 +15,14 @@ use Rattle.pdllrw.specs.declared.status.Status.TheVariants as statuses
 use Rattle.pdllrw.specs.Outcome.{placed_line, patterns_line, module_line, line_of}
 use Rattle.pdllrw.specs.Written.{Tells}
 
-placed : (p : Position) (k : PatKind) → k ≢ pat_kinds.TooLong → k ≢ pat_kinds.NotBuilt → placed_line (codes "patterns") p (code_text k) ≡ patterns_line p k
-placed p pat_kinds.TooLong h l = absurd (h refl)
-placed p pat_kinds.NotBuilt h l = absurd (l refl)
-placed p k h l = refl
+placed : (p : Position) (k : PatKind) → k ≢ pat_kinds.TooLong → placed_line (codes "patterns") p (code_text k) ≡ patterns_line p k
+placed p pat_kinds.TooLong h = absurd (h refl)
+placed p k h = refl
 
 -- a line with a place, whose code is that of the kind
-pub puts_placed : {A E : Type 0} (old new : SinkState) (r : Result A E) (p : Position) (k : PatKind) (code : List ℕ) → k ≢ pat_kinds.TooLong → k ≢ pat_kinds.NotBuilt → code ≡ code_text k
+pub puts_placed : {A E : Type 0} (old new : SinkState) (r : Result A E) (p : Position) (k : PatKind) (code : List ℕ) → k ≢ pat_kinds.TooLong → code ≡ code_text k
     → Puts old new r (placed_line (codes "patterns") p code) → Puts old new r (patterns_line p k)
-puts_placed old new r p k code h l is put = subst (Puts old new r) (ap (placed_line (codes "patterns") p) is ∙ placed p k h l) put
+puts_placed old new r p k code h is put = subst (Puts old new r) (ap (placed_line (codes "patterns") p) is ∙ placed p k h) put
 
 placed_in_module : (p : Position) (k : ModKind) → k ≢ mod_kinds.TooLong → placed_line (codes "module") p (module_faults.code_text k) ≡ module_line p k
 placed_in_module p mod_kinds.TooLong h = absurd (h refl)

@@ -1,5 +1,5 @@
 -- Which files are accepted.
-use Rattle.std.specs.Prelude.{◌≡◌, ◌≤◌, ℕ, List, length, Some, Ok}
+use Rattle.std.specs.Prelude.{◌≡◌, ◌≤◌, ℕ, List, length, Ok}
 use Rattle.pdll_syntax.specs.declared.file.PatFile.{PatFile}
 use Rattle.pdll_parser.specs.FileGrammar.{IsPatternFile}
 use Rattle.pdll_types.specs.Accepted.{IsAccepted}
@@ -15,7 +15,7 @@ pub record AcceptsPatterns (ps : List Erasing) (bytes : List ℕ) : Type 0 where
   pub file : PatFile
   pub spelled : IsPatternFile bytes file
   pub accepted : IsAccepted file
-  pub are_built : built file ≡ Some ps
+  pub are_built : built file ≡ Ok ps
 
 -- the bytes are not too many, and spell a module file, of which these are the rows
 pub record AcceptsModule (m : Rows) (bytes : List ℕ) : Type 0 where

@@ -1,4 +1,5 @@
 pub mod Patterns
+pub mod Builds
 pub mod Positions
 pub mod Run
 pub mod Laws

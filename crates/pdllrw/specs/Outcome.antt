@@ -7,7 +7,7 @@ use Rattle.pdll_syntax.specs.declared.file.PatFile.{PatFile}
 use Rattle.pdll_syntax.specs.Faults.{code_text}
 use Rattle.pdll_parser.specs.FileGrammar.{IsPatternFile}
 use Rattle.pdll_parser.specs.Spelling.{is_spelling_fault}
-use Rattle.pdll_types.specs.Accepted.{IsAccepted, first_fault}
+use Rattle.pdll_types.specs.Accepted.{IsAccepted, IsFirstFault}
 use Rattle.pdllrw.specs.Patterns.{Erasing, built}
 use Rattle.pdllrw.specs.Positions.{position_of}
 use Rattle.pdllrw.specs.declared.position.Position.{Position}
@@ -51,23 +51,23 @@ pub record IsNotSpelled (p : Position) (kind : PatKind) (at : ℕ) (bytes : List
   pub within : at ≤ length bytes
   pub place : p ≡ position_of bytes at
 
--- The file is spelled, and this is the first fault of its names, kinds and parts.
+-- The file is spelled, and this is its first fault.
 pub record IsNotAccepted (p : Position) (f : PatFault) (bytes : List ℕ) : Type 0 where
   pub short : length bytes ≤ 67108864
   pub file : PatFile
   pub spelled : IsPatternFile bytes file
-  pub fault : first_fault file ≡ Some f
+  pub fault : IsFirstFault file f
   pub place : p ≡ position_of bytes f.at
 
--- The file is accepted, and some pattern isn't built.
-pub record IsNotBuilt (f : PatFault) (bytes : List ℕ) : Type 0 where
+-- The file is accepted, and the first pattern that isn't built is there.
+pub record IsNotBuilt (p : Position) (f : PatFault) (bytes : List ℕ) : Type 0 where
   pub is_kind : f.kind ≡ pat_kinds.NotBuilt
-  pub place : f.at ≡ 0
   pub short : length bytes ≤ 67108864
   pub file : PatFile
   pub spelled : IsPatternFile bytes file
   pub accepted : IsAccepted file
-  pub not_built : built file ≡ None
+  pub not_built : built file ≡ Err f.at
+  pub place : p ≡ position_of bytes f.at
 
 -- The file has too many bytes.
 pub record IsLongFile (f : PatFault) (bytes : List ℕ) : Type 0 where
@@ -77,7 +77,7 @@ pub record IsLongFile (f : PatFault) (bytes : List ℕ) : Type 0 where
 
 -- the bytes are refused with this fault, whose place is on this line and in this column
 abbrev pub RefusesPatterns : Position → PatFault → List ℕ → Type 0
-RefusesPatterns p f bytes = IsLongFile f bytes ⊎ (IsNotSpelled p f.kind f.at bytes ⊎ (IsNotAccepted p f bytes ⊎ IsNotBuilt f bytes))
+RefusesPatterns p f bytes = IsLongFile f bytes ⊎ (IsNotSpelled p f.kind f.at bytes ⊎ (IsNotAccepted p f bytes ⊎ IsNotBuilt p f bytes))
 
 -- The same of a module file.
 pub record IsNoModule (p : Position) (kind : ModKind) (at : ℕ) (bytes : List ℕ) : Type 0 where
@@ -110,7 +110,6 @@ placed_line file p code = concat (codes "pdllrw: " ∷ file ∷ codes ": " ∷ d
 
 abbrev pub patterns_line : Position → PatKind → List ℕ
 patterns_line p pat_kinds.TooLong = codes "pdllrw: patterns: P1 TooLong\n"
-patterns_line p pat_kinds.NotBuilt = codes "pdllrw: patterns: P0 NotBuilt\n"
 patterns_line p kind = placed_line (codes "patterns") p (code_text kind)
 
 abbrev pub module_line : Position → ModKind → List ℕ

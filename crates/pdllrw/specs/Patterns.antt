@@ -1,5 +1,5 @@
 -- The patterns that are built: those that erase each operation of one name.
-use Rattle.std.specs.Prelude.{ℕ, Bool, true, false, if◌then◌else◌, List, [], ◌∷◌, map, codes, Option, Some, None}
+use Rattle.std.specs.Prelude.{ℕ, Bool, true, false, if◌then◌else◌, List, [], ◌∷◌, map, codes, Option, Some, None, Result, Ok, Err}
 use Rattle.std.specs.Str.{bytes_eq}
 use Rattle.pdll_syntax.specs.declared.name.Name.{Name}
 use Rattle.pdll_syntax.specs.declared.stmt.Body.{Body}
@@ -80,21 +80,18 @@ named_erasing label None = None
 unfoldable pub pattern_erasing : PatternDecl → Option Erasing
 pattern_erasing p = without_metas p.metas (named_erasing (label_text p.name) (body_name p.body))
 
-abbrev pub decl_erasing : Decl → Option Erasing
-decl_erasing (decl.Pattern p) = pattern_erasing p
-decl_erasing (decl.Constraint c) = None
-decl_erasing (decl.Rewrite c) = None
+-- behind the pattern at this place
+abbrev pub erasing_then : ℕ → Option Erasing → Result (List Erasing) ℕ → Result (List Erasing) ℕ
+erasing_then at None more = Err at
+erasing_then at (Some p) (Err k) = Err k
+erasing_then at (Some p) (Ok ps) = Ok (p ∷ ps)
 
-abbrev pub erasing_then : Option Erasing → Option (List Erasing) → Option (List Erasing)
-erasing_then None more = None
-erasing_then (Some p) None = None
-erasing_then (Some p) (Some ps) = Some (p ∷ ps)
+-- the patterns among these, or the place of the first that isn't such a pattern
+abbrev pub all_erasing : List Decl → Result (List Erasing) ℕ
+all_erasing [] = Ok []
+all_erasing ((decl.Pattern p) ∷ ds) = erasing_then p.at (pattern_erasing p) (all_erasing ds)
+all_erasing (d ∷ ds) = all_erasing ds
 
--- each declaration is such a pattern
-abbrev pub all_erasing : List Decl → Option (List Erasing)
-all_erasing [] = Some []
-all_erasing (d ∷ ds) = erasing_then (decl_erasing d) (all_erasing ds)
-
--- The patterns of a file, where each declaration is such a pattern.
-unfoldable pub built : PatFile → Option (List Erasing)
+-- The patterns of a file, where each is such a pattern, else the place of the first that isn't.
+unfoldable pub built : PatFile → Result (List Erasing) ℕ
 built file = all_erasing file.decls

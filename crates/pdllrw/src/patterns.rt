@@ -4,9 +4,13 @@ ghost use Rattle.std.specs.Option.{option_map};
 ghost use Rattle.std.specs.List.{list_any};
 ghost use Rattle.std.specs.Str.{bytes_eq};
 ghost use Rattle.pdllrw.specs.Patterns as spec;
-ghost use Rattle.pdllrw.specs.Patterns.{view, views};
+ghost use Rattle.pdllrw.specs.Patterns.{view};
+ghost use Rattle.pdll_syntax.specs.declared.file.Decl.{Decl as Declaration};
+ghost use Rattle.pdllrw.specs.Builds.{Builds, Finds};
 
+use mlir_tree::refusal::Refusal;
 use pdll_syntax::expr::{Entry, Expr, ExprForm, OpExpr};
+use pdll_syntax::fault::{PatFault, PatKind};
 use pdll_syntax::file::{Decl, PatFile, PatternDecl};
 use pdll_syntax::name::{Name, Text};
 use pdll_syntax::stmt::{Body, Stmt, StmtForm};
@@ -134,32 +138,44 @@ fn pattern_erasing(alloc: Global, pattern: &PatternDecl) -> Result<Option<Patter
     }
 }
 
-fn decl_erasing(alloc: Global, decl: &Decl) -> Result<Option<Pattern>, AllocError>
-    ensures { IfOk result (λ o. option_map view o ≡ spec.decl_erasing decl.now) }
+/// Puts one more declaration's pattern behind those found. A constraint or a rewrite is no pattern.
+#[tactic(auto, using(crate::proofs::Built::one_found, crate::proofs::Built::none_found))]
+fn find_erasing(
+    alloc: Global,
+    found: &mut Vec<Pattern>,
+    decl: &Decl,
+) -> Result<(), Refusal<PatFault>>
+    ensures { (ds : List Declaration) → Finds found.old.items decl.now ds result found.new.items }
 {
-    match decl {
-        Decl::Pattern(pattern) => pattern_erasing(alloc, pattern),
-        Decl::Constraint(_) | Decl::Rewrite(_) => Ok(None),
+    let Decl::Pattern(pattern) = decl else {
+        return Ok(());
+    };
+    match pattern_erasing(alloc, pattern)? {
+        None => Err(Refusal::Fault(PatFault {
+            kind: PatKind::NotBuilt,
+            at: pattern.at,
+        })),
+        Some(one) => Ok(found.push(one)?),
     }
 }
 
-fn all_erasing(alloc: Global, decls: &[Decl]) -> Result<Option<Vec<Pattern>>, AllocError>
-    ensures { IfOk result (λ o. option_map (λ v. views v.items) o ≡ spec.all_erasing decls.now) }
+fn all_erasing(alloc: Global, decls: &[Decl]) -> Result<Vec<Pattern>, Refusal<PatFault>>
+    ensures { Builds (spec.all_erasing decls.now) result }
 {
     let mut found = Vec::new(alloc);
     for decl in decls {
-        let Some(pattern) = decl_erasing(alloc, decl)? else {
-            return Ok(None);
-        };
-        found.push(pattern)?;
+        if let Err(refusal) = find_erasing(alloc, &mut found, decl) {
+            return Err(refusal);
+        }
     }
-    Ok(Some(found))
+    Ok(found)
 }
 
-/// The patterns of a file, where each declaration erases the operations of one name, which isn't that of a module.
+/// The patterns of a file, where each erases the operations of one name, which isn't that of a module. Else the fault is at
+/// the first pattern that doesn't.
 #[tactic(auto, unfolding(crate::specs::Patterns::built))]
-pub fn built(alloc: Global, file: &PatFile) -> Result<Option<Vec<Pattern>>, AllocError>
-    ensures { IfOk result (λ o. option_map (λ v. views v.items) o ≡ spec.built file.now) }
+pub fn built(alloc: Global, file: &PatFile) -> Result<Vec<Pattern>, Refusal<PatFault>>
+    ensures { Builds (spec.built file.now) result }
 {
     all_erasing(alloc, file.decls.as_slice())
 }

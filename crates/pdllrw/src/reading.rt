@@ -93,9 +93,9 @@ fn patterns_of(alloc: Global, bytes: &[u8]) -> Result<Vec<Pattern>, Stop>
 {
     let typed = accepted(alloc, bytes)?;
     match built(alloc, &typed.file) {
-        Ok(Some(patterns)) => Ok(patterns),
-        Ok(None) => Err(pattern_fault(PatKind::NotBuilt, 0)),
-        Err(_) => Err(placeless(Status::NoMemory)),
+        Ok(patterns) => Ok(patterns),
+        Err(Refusal::Fault(fault)) => Err(bad_patterns(bytes, fault)),
+        Err(Refusal::NoMemory) => Err(placeless(Status::NoMemory)),
     }
 }
 

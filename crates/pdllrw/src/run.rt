@@ -37,7 +37,6 @@ fn put_patterns_line<G: Sink>(log: &mut G, place: Position, kind: PatKind) -> Re
 {
     match kind {
         PatKind::TooLong => put_all(log, b"pdllrw: patterns: P1 TooLong\n"),
-        PatKind::NotBuilt => put_all(log, b"pdllrw: patterns: P0 NotBuilt\n"),
         _ => put_placed(log, b"patterns", place, kind.code_text()),
     }
 }

@@ -303,7 +303,7 @@ fn patterns_are_refused(alloc: Global) -> bool {
     refuses_patterns(
         alloc,
         b"Pattern => erase op<t.a>();",
-        b"pdllrw: patterns: P0 NotBuilt\n",
+        b"pdllrw: patterns: 1:1: P0 NotBuilt\n",
     ) && refuses_patterns(
         alloc,
         b"Pattern A => erase op<t.a>;\nPattern A => erase op<t.b>;",
@@ -324,6 +324,18 @@ fn patterns_are_refused(alloc: Global) -> bool {
         alloc,
         b"Pattern { let x: Value = x; erase op<t.a>(x); }",
         b"pdllrw: patterns: 1:26: P10 Undefined\n",
+    ) && refuses_patterns(
+        alloc,
+        b"Pattern { let a = op<t.a>; erase op<t.b>; }",
+        b"pdllrw: patterns: 1:19: P17 MultiRoot\n",
+    ) && refuses_patterns(
+        alloc,
+        b"Pattern { let v: Value; erase op<t.b>; }",
+        b"pdllrw: patterns: 1:15: P18 Undetermined\n",
+    ) && refuses_patterns(
+        alloc,
+        b"Pattern A => erase op<t.a>;\nConstraint IsInt(a: Attr);\nPattern B with benefit(65534) => erase op<t.a>;",
+        b"pdllrw: patterns: 3:1: P0 NotBuilt\n",
     )
 }
 

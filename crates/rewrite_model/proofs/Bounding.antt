@@ -17,9 +17,7 @@ use Rattle.native_set.specs.declared.native.Rewrite.{Rewrite}
 use Rattle.native_set.specs.Table.{rewrite_of}
 use Rattle.rewrite_model.specs.Pattern.{the, Part, matched, native, Making, attr_literal, type_literal, new_operation, result_of, result_types_of, only_result_of, results_of, Action, makes, replaces, erases}
 use Rattle.mlir_tree.specs.Tree.{unit}
-use Rattle.mlir_parse.specs.Attributes.{attr_of}
-use Rattle.mlir_parse.specs.Types.{type_of}
-use Rattle.rewrite_model.specs.MatchPart.{empty, literal_attr, literal_type}
+use Rattle.rewrite_model.specs.MatchPart.{empty, attr_spelled, type_spelled}
 use Rattle.rewrite_model.specs.Doing.{Doing, ◌>>=◌, pure}
 use Rattle.rewrite_model.specs.Names.{Meant, Names, named_together}
 use Rattle.rewrite_model.specs.RewritePart.{Script, Rewrites, act, make, see_part, look_up_part, operand_part, replacement_part, replaced_types, evaluated, form_evaluated, operation_evaluated, operands_evaluated, operand_list, types_evaluated, type_list, all_evaluated, entries_evaluated, entry_evaluated, replacement, replacement_list, replacements, replace_by, form_done, done, all_done}
@@ -93,8 +91,8 @@ module _ (rewrite : Rewrites) (called : Called) (calls : (n : List ℕ) (xs : Li
         let b = calls n (all_evaluated rewrite es s).0 (all_evaluated rewrite es s).1 in
         omega (arith, a, b)
     of_form (declare_expr n rs) old s = omega arith
-    of_form (attr_expr l) old s = let a = makes_one kind.Attr (attr_literal (literal_attr (attr_of l.bytes))) s in omega (arith, a)
-    of_form (type_expr l) old s = let a = makes_one kind.Ty (type_literal (literal_type (type_of l.bytes))) s in omega (arith, a)
+    of_form (attr_expr l) old s = let a = makes_one kind.Attr (attr_literal (attr_spelled l.bytes)) s in omega (arith, a)
+    of_form (type_expr l) old s = let a = makes_one kind.Ty (type_literal (type_spelled l.bytes)) s in omega (arith, a)
     of_form (op_expr o) old s = let a = of_operation o old s in omega (arith, a)
     of_form (member_expr e k) old s =
         let a = of_expr e old s in

@@ -24,3 +24,8 @@ pub mod BestExamples
 pub mod Bounding
 pub mod Placing
 pub mod Ordering
+pub mod Reading
+pub mod Apart
+pub mod Plain
+pub mod Adding
+pub mod Following

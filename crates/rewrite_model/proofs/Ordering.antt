@@ -5,8 +5,6 @@ use Rattle.std.specs.Option.{option_map_or}
 use Rattle.std.specs.Str.{bytes_eq}
 use Rattle.std.specs.List.{AllByRecursion}
 use Rattle.mlir_tree.specs.Tree.{unit}
-use Rattle.mlir_parse.specs.Attributes.{attr_of}
-use Rattle.mlir_parse.specs.Types.{type_of}
 use Rattle.pdll_syntax.specs.declared.stmt.Body.{Body}
 use Rattle.pdll_syntax.specs.declared.stmt.Body.TheVariants as body
 use Rattle.pdll_syntax.specs.declared.stmt.Param.{Param}
@@ -24,7 +22,7 @@ use Rattle.rewrite_model.specs.Pattern as asks
 use Rattle.rewrite_model.specs.Determined.{values_of}
 use Rattle.rewrite_model.specs.Doing.{Doing, for_each}
 use Rattle.rewrite_model.specs.Names.{Meant, Names, meaning, ref_name, named_together}
-use Rattle.rewrite_model.specs.MatchPart.{Scene, empty, Constrains, number_of, meant, new_number, ask, ask_name, ask_type, mention, new_variable, as_operand, literal_attr, literal_type, call_named, call_refs, kind_of_refs, variable, expression, form_at, operation_at, operands_at, operand_list, types_at, expressions, entries_of, entry_of, given, type_of_refs, type_of_ref, type_of_form, plain, let_value, statement}
+use Rattle.rewrite_model.specs.MatchPart.{Scene, empty, Constrains, number_of, meant, new_number, ask, ask_name, ask_type, mention, new_variable, as_operand, attr_spelled, type_spelled, call_named, call_refs, kind_of_refs, variable, expression, form_at, operation_at, operands_at, operand_list, types_at, expressions, entries_of, entry_of, given, type_of_refs, type_of_ref, type_of_form, plain, let_value, statement}
 use Rattle.rewrite_model.specs.Expanding.{param_names, within, call_params, body_asks, ask_native, call_constraint, constrains_if, constraints, body_statements, form_root, last_root, read_match, expanded}
 use Rattle.rewrite_model.specs.Laws.{number_in, AreUpTo, HasPartsUpTo, PartsComeFirst}
 
@@ -204,11 +202,11 @@ module _ (constraint : List ℕ → Constrains) (calls : (n : List ℕ) (xs : Li
     of_form (attr_expr l) at s f =
         let x = new_number at kind.Attr s in
         let a = numbered at kind.Attr s f in
-        record { fits = asked (is_attr (number_of x.0.is) (literal_attr (attr_of l.bytes))) x.1 a.fits tt; more = a.more; gives = a.gives }
+        record { fits = asked (is_attr (number_of x.0.is) (attr_spelled l.bytes)) x.1 a.fits tt; more = a.more; gives = a.gives }
     of_form (type_expr l) at s f =
         let x = new_number at kind.Ty s in
         let a = numbered at kind.Ty s f in
-        record { fits = asked (is_type (number_of x.0.is) (literal_type (type_of l.bytes))) x.1 a.fits tt; more = a.more; gives = a.gives }
+        record { fits = asked (is_type (number_of x.0.is) (type_spelled l.bytes)) x.1 a.fits tt; more = a.more; gives = a.gives }
     of_form (op_expr o) at s f = of_operation o at s f
     of_form (member_expr e k) at s f =
         let x = expression constraint e s in

@@ -17,7 +17,8 @@ use Rattle.rewrite_model.specs.Pattern.{Expr}
 use Rattle.rewrite_model.specs.Doing.{Doing, for_each}
 use Rattle.rewrite_model.specs.Names.{Meant, ref_name, named_together}
 use Rattle.rewrite_model.specs.MatchPart.{Scene, empty, Constrains, new_number, ask_name, ask_type, see_name, new_variable, as_operand, call_named, call_refs, kind_of_refs, variable, expression, form_at, operation_at, operands_at, operand_list, types_at, expressions, entries_of, entry_of, given, type_of_refs, type_of_ref, type_of_form, plain, let_value, statement}
-use Rattle.rewrite_model.specs.Expanding.{param_names, within, call_params, body_asks, ask_native, call_constraint, constrains_if, constraints, body_statements, form_root, last_root, read_match, expanded, param_variables, constraint_scene}
+use Rattle.rewrite_model.specs.Expanding.{param_names, within, call_params, body_asks, ask_native, call_constraint, constrains_if, constraints, body_statements, form_root, last_root, read_match, expanded, param_variables}
+use Rattle.rewrite_model.specs.Own.{silent, own}
 use Rattle.rewrite_model.specs.Laws.{NumbersHavePlaces}
 
 -- as many places as kinds
@@ -211,12 +212,19 @@ of_calls ((decl.Constraint c) ∷ ds) n xs s h = by (bytes_eq c.name.text n) (of
   by true go = of_call (constraints ds) go c c.body xs s h
   by false go = go n xs s h
 
+silent_calls : (ds : List Decl) (n : List ℕ) (xs : List (Meant Expr)) → Keeps ((silent (constraints ds) n).call xs)
+silent_calls ds n xs s h = h
+
+of_own : (ds : List Decl) (d : Decl) → IsPlaced (own ds d).scene
+unfolding own
+of_own ds (decl.Pattern p) = of_match (silent (constraints ds)) (silent_calls ds) (body_statements p.body) empty refl
+of_own ds (decl.Constraint c) =
+    let f = silent (constraints ds) in
+    let x = param_variables f c.params empty in
+    let y = call_params f c.params x.0 x.1 in
+    of_body f (silent_calls ds) c.body y.1 (of_params f (silent_calls ds) c.params x.0 x.1 (of_param_variables f (silent_calls ds) c.params empty refl))
+of_own ds (decl.Rewrite c) = refl
+
 pub numbers_have_places : NumbersHavePlaces
-unfolding expanded constraint_scene
-numbers_have_places = (
-  λ ds p. of_match (constraints ds) (of_calls ds) (body_statements p.body) empty refl,
-  λ ds c.
-      let x = param_variables (constraints ds) c.params empty in
-      let y = call_params (constraints ds) c.params x.0 x.1 in
-      of_body (constraints ds) (of_calls ds) c.body y.1 (of_params (constraints ds) (of_calls ds) c.params x.0 x.1 (of_param_variables (constraints ds) (of_calls ds) c.params empty refl)),
-)
+unfolding expanded
+numbers_have_places = (λ ds p. of_match (constraints ds) (of_calls ds) (body_statements p.body) empty refl, of_own)

@@ -1,11 +1,10 @@
 -- Which variables and operation expressions are determined, so that at most one choice fits them.
 use Rattle.std.specs.Prelude.{◌≡◌, ◌⊎◌, ℕ, ◌+◌, ◌<◌, ◌≤◌, Bool, true, false, if◌then◌else◌, List, [], ◌∷◌, map, length, slice_get, Option, Some, ⊤}
-use Rattle.std.specs.List.{AllByRecursion, range_with_len}
+use Rattle.std.specs.List.{AllByRecursion}
 use Rattle.mlir_tree.specs.Tree.{Ty, Attr}
 use Rattle.native_set.specs.declared.native.Kind.{Kind}
 use Rattle.native_set.specs.declared.native.Kind.TheVariants as kind
 use Rattle.rewrite_model.specs.Pattern.{Parts, Expr, the, result, only_result, Demand, is_attr, is_type, has_parts, has_type, Pattern}
-use Rattle.rewrite_model.specs.MatchPart.{Scene}
 
 abbrev pub IsIn : {X : Type 0} → X → List X → Type 0
 IsIn x [] = ⊥
@@ -71,8 +70,3 @@ pub record IsDetermined (p : Pattern) : Type 0 where
 
 abbrev pub AreDetermined : List Pattern → Type 0
 AreDetermined ps = AllByRecursion IsDetermined ps
-
--- The same of a constraint by itself, whose first variables are its parameters.
-pub record IsDeterminedBody (params : ℕ) (s : Scene) : Type 0 where
-  pub each : (x : ℕ) → x < length s.kinds → Determined (range_with_len 0 params) s.demands x
-  pub ranges : AllByRecursion (KeepsOneRange s.kinds) s.demands

@@ -209,7 +209,3 @@ constraint_asks earlier c = do
   xs ← param_variables earlier c.params
   call_params earlier c.params xs
   body_asks earlier c.body
-
--- What a declared constraint asks for of its parameters, which are the variables 0, 1, ..
-unfoldable pub constraint_scene : List Decl → CallDecl → Scene
-constraint_scene earlier c = (constraint_asks (constraints earlier) c empty).1

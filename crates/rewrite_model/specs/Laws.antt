@@ -6,12 +6,12 @@ use Rattle.mlir_tree.specs.declared.rows.Rows.{Rows}
 use Rattle.mlir_tree.specs.WellFormed.{AreNumbered, AreNested, HasVisibleOperands, HasDictionaries, HasSizes, IsWellFormed}
 use Rattle.pdll_syntax.specs.declared.file.Decl.{Decl}
 use Rattle.pdll_syntax.specs.declared.file.Decl.TheVariants as decl
-use Rattle.pdll_syntax.specs.declared.file.CallDecl.{CallDecl}
 use Rattle.pdll_syntax.specs.declared.file.PatternDecl.{PatternDecl}
 use Rattle.rewrite_model.specs.declared.run.Hit.{Hit}
 use Rattle.rewrite_model.specs.declared.run.Ending.TheVariants.{Converged}
 use Rattle.rewrite_model.specs.Pattern.{Expr, the, result, only_result, Demand, has_parts, has_type, new_operation, Action, makes, Pattern}
-use Rattle.rewrite_model.specs.Expanding.{expanded, constraint_scene}
+use Rattle.rewrite_model.specs.Expanding.{expanded}
+use Rattle.rewrite_model.specs.Own.{own}
 use Rattle.rewrite_model.specs.Size.{expanded_size}
 use Rattle.rewrite_model.specs.Things.{Thing}
 use Rattle.rewrite_model.specs.Determined.{values_of, IsDetermined, AreDetermined}
@@ -76,11 +76,11 @@ RunsKeepWellFormed = (ps : List Pattern) (n : ℕ) (m k : Rows) → IsWellFormed
 abbrev pub RunsReachTheirEnd : Type 0
 RunsReachTheirEnd = (ps : List Pattern) (n : ℕ) (m : Rows) (c : Course) → Runs ps n m c → Reaches ps n m c.rows
 
--- Each number of a pattern has a place in the file, and so has each number of a constraint by itself.
+-- Each number of a pattern has a place in the file, and so has each number of a declaration by itself.
 abbrev pub NumbersHavePlaces : Type 0
 NumbersHavePlaces =
     ((earlier : List Decl) (p : PatternDecl) → length (expanded earlier p).places ≡ length (expanded earlier p).kinds)
-    × ((earlier : List Decl) (c : CallDecl) → length (constraint_scene earlier c).places ≡ length (constraint_scene earlier c).kinds)
+    × ((earlier : List Decl) (d : Decl) → length (own earlier d).scene.places ≡ length (own earlier d).scene.kinds)
 
 abbrev pub number_in : Expr → ℕ
 number_in (the x) = x

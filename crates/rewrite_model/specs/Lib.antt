@@ -6,6 +6,7 @@ pub mod RewritePart
 pub mod Expanding
 pub mod Size
 pub mod Determined
+pub mod Own
 pub mod Things
 pub mod Holding
 pub mod Matching

@@ -1,6 +1,7 @@
 -- The match of a pattern, and bodies of constraints, as demands (PDLL document, "Variables", "Operation Expression",
 -- "Constraints"). What is written here of files that aren't accepted means nothing.
-use Rattle.std.specs.Prelude.{ℕ, List, [], ◌∷◌, ◌++◌, map, length, Option, Some, None, Result, Ok, Err}
+use Rattle.std.specs.Prelude.{ℕ, List, [], ◌∷◌, ◌++◌, map, length, Option, Some, None, Result, Ok, Err, if◌then◌else◌, ◌==◌}
+use Rattle.std.specs.Str.Lossy.{utf8_valid_len}
 use Rattle.mlir_tree.specs.Tree.{Ty, index, Attr, unit}
 use Rattle.mlir_parse.specs.declared.fault.ModFault.{ModFault}
 use Rattle.mlir_parse.specs.Attributes.{attr_of}
@@ -78,6 +79,13 @@ abbrev pub literal_type : Result Ty ModFault → Ty
 literal_type (Ok t) = t
 literal_type (Err e) = index
 
+-- what the bytes of a literal spell; bytes that aren't UTF-8 spell nothing
+abbrev pub attr_spelled : List ℕ → Attr
+attr_spelled bytes = if utf8_valid_len bytes == length bytes then literal_attr (attr_of bytes) else unit
+
+abbrev pub type_spelled : List ℕ → Ty
+type_spelled bytes = if utf8_valid_len bytes == length bytes then literal_type (type_of bytes) else index
+
 abbrev pub a_literal_attr : ℕ → Attr → Doing Scene (Meant Expr)
 a_literal_attr at v = do
   x ← new_number at kind.Attr
@@ -133,8 +141,8 @@ module _ (constraint : List ℕ → Constrains) where
       x ← variable at (ref_list rs) t
       see_name n x
       pure x
-    form_at (attr_expr l) at = a_literal_attr at (literal_attr (attr_of l.bytes))
-    form_at (type_expr l) at = a_literal_type at (literal_type (type_of l.bytes))
+    form_at (attr_expr l) at = a_literal_attr at (attr_spelled l.bytes)
+    form_at (type_expr l) at = a_literal_type at (type_spelled l.bytes)
     form_at (op_expr o) at = operation_at o at
     form_at (member_expr e k) at = do
       x ← expression e

@@ -2,8 +2,6 @@
 -- "erase Statement", "replace Statement"). What is written here of files that aren't accepted means nothing.
 use Rattle.std.specs.Prelude.{ℕ, ◌+◌, List, [], ◌∷◌, ◌++◌, Option, Some, None}
 use Rattle.mlir_tree.specs.Tree.{unit}
-use Rattle.mlir_parse.specs.Attributes.{attr_of}
-use Rattle.mlir_parse.specs.Types.{type_of}
 use Rattle.pdll_syntax.specs.ExprTree.{Expr as Syntax, expr, ExprForm, name_expr, call_expr, declare_expr, attr_expr, type_expr, op_expr, member_expr, OpExpr, operation, Entry, entry, Exprs, no_exprs, expr_then, Entries, no_entries, entry_then, MaybeExpr, no_expr, some_expr, MaybeExprs, left_out, written}
 use Rattle.pdll_syntax.specs.StmtTree.{Stmt, stmt, StmtForm, let_stmt, erase_stmt, return_stmt, replace_stmt, plain_stmt}
 use Rattle.pdll_syntax.specs.declared.stmt.Values.{Values}
@@ -13,7 +11,7 @@ use Rattle.native_set.specs.declared.native.Kind.TheVariants as kind
 use Rattle.rewrite_model.specs.Pattern.{attr_literal, type_literal, Part, made, Making, new_operation, result_of, only_result_of, results_of, result_types_of, Action, makes, replaces, erases}
 use Rattle.rewrite_model.specs.Doing.{Doing, ◌>>=◌, ◌>>◌, pure, change}
 use Rattle.rewrite_model.specs.Names.{Meant, Names, meaning}
-use Rattle.rewrite_model.specs.MatchPart.{meant, literal_attr, literal_type}
+use Rattle.rewrite_model.specs.MatchPart.{meant, attr_spelled, type_spelled}
 
 -- What was read of a rewrite: the names in sight, how many things it makes, and its actions.
 pub record Script : Type 0 where
@@ -80,8 +78,8 @@ module _ (rewrite : Rewrites) where
       xs ← all_evaluated es
       rewrite n xs
     form_evaluated (declare_expr n rs) old = pure no_part
-    form_evaluated (attr_expr l) old = make kind.Attr (attr_literal (literal_attr (attr_of l.bytes)))
-    form_evaluated (type_expr l) old = make kind.Ty (type_literal (literal_type (type_of l.bytes)))
+    form_evaluated (attr_expr l) old = make kind.Attr (attr_literal (attr_spelled l.bytes))
+    form_evaluated (type_expr l) old = make kind.Ty (type_literal (type_spelled l.bytes))
     form_evaluated (op_expr o) old = operation_evaluated o old
     form_evaluated (member_expr e k) old = do
       x ← evaluated e old

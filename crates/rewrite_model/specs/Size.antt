@@ -1,5 +1,5 @@
 -- How large a declaration is after expanding, counted without expanding.
-use Rattle.std.specs.Prelude.{ℕ, ◌+◌, Bool, true, false, List, [], ◌∷◌, Option, Some, None}
+use Rattle.std.specs.Prelude.{ℕ, ◌+◌, Bool, true, false, ◌||◌, nat_lt, List, [], ◌∷◌, Option, Some, None}
 use Rattle.std.specs.Str.{bytes_eq}
 use Rattle.pdll_syntax.specs.declared.stmt.Body.{Body}
 use Rattle.pdll_syntax.specs.declared.stmt.Body.TheVariants as body
@@ -162,3 +162,22 @@ sizes ((decl.Rewrite c) ∷ earlier) = with_rewrite c (sizes earlier)
 -- The size of a declaration after expanding, by the declarations before it, the last one first.
 unfoldable pub expanded_size : List Decl → Decl → Size
 expanded_size earlier d = decl_size (sizes earlier) d
+
+-- ---- limits
+
+-- the expressions of all patterns among these declarations
+abbrev pub pattern_expressions : List Decl → ℕ
+pattern_expressions [] = 0
+pattern_expressions ((decl.Pattern p) ∷ earlier) = (expanded_size earlier (decl.Pattern p)).expressions + pattern_expressions earlier
+pattern_expressions (d ∷ earlier) = pattern_expressions earlier
+
+abbrev pub is_long : Size → Bool
+is_long s = nat_lt 4096 s.statements || nat_lt 65535 s.expressions
+
+-- Whether a declaration is too large after expanding: more than 4,096 statements or 65,535 expressions, or a pattern of more
+-- than 256 operations, or with which all patterns have more than 1,000,000 expressions.
+unfoldable pub is_too_large : List Decl → Decl → Bool
+is_too_large earlier (decl.Pattern p) =
+    is_long (expanded_size earlier (decl.Pattern p))
+    || (nat_lt 256 (expanded_size earlier (decl.Pattern p)).operations || nat_lt 1000000 (pattern_expressions (decl.Pattern p ∷ earlier)))
+is_too_large earlier d = is_long (expanded_size earlier d)

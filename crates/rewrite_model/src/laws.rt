@@ -53,7 +53,7 @@ pub fn runs_reach_their_end()
     ensures { RunsReachTheirEnd }
 {}
 
-/// Each number of a pattern, and of a constraint by itself, has a place in the file.
+/// Each number of a pattern, and of a declaration by itself, has a place in the file.
 pub fn numbers_have_places()
     ensures { NumbersHavePlaces }
 {}

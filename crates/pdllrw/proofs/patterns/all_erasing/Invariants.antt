@@ -1,6 +1,6 @@
 use Rattle.std.proofs.Common.{◌≡◌, drop}
 use Rattle.pdllrw.specs.Patterns.{views, all_erasing}
-use Rattle.pdllrw.proofs.Built.{behind}
+use Rattle.pdllrw.specs.Builds.{behind}
 use Rattle.pdllrw.proofs.patterns.all_erasing.Given as goal
 
 abbrev pub invariant-loop-decl : goal.invariant-loop-decl

@@ -1,0 +1,9 @@
+pub mod Known
+pub mod Loops
+pub mod Members
+pub mod Names
+pub mod Plain
+pub mod Quiet
+pub mod Steps
+pub mod Utf8
+pub mod Marking
