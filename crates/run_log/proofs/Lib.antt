@@ -1,1 +1,8 @@
 pub mod Lines
+pub mod Pieces
+pub mod Strings
+pub mod Numbers
+pub mod Endings
+pub mod LineFeeds
+pub mod Walks
+pub mod Unique

@@ -1,6 +1,8 @@
-//! Logs, written as their format has it.
+//! Logs, written and read as their format has it.
 
 use super::*;
+use crate::fault::LogFault;
+use mlir_tree::refusal::Refusal;
 use rewrite_model::run::{BoundKind, Break, Broken, Ending, Hit, Run, StepRec};
 use rw_outside::{Failed, MemSink};
 use sqlite_items::Items;
@@ -109,6 +111,54 @@ fn endings_have_their_lines(rt: HostRuntime) -> Result<(), Fail> {
         let mut sink = MemSink::new(alloc, 200)?;
         assert_eq!(rt; put_log(&run, &mut sink), Ok(()));
         assert_eq!(rt; sink.bytes().strip_prefix(HEADER), Some(*want));
+    }
+    Ok(())
+}
+
+fn is_read_back(alloc: Global) -> bool {
+    let text =
+        b"pdllrw-log 1\nstep 1 pattern 1 \"Drop\" root 4 made - removed 4,5\nend converged steps 1\n";
+    let Ok(run) = read_log(alloc, text) else {
+        return false;
+    };
+    let [step] = run.taken.as_slice() else {
+        return false;
+    };
+    step.pattern == 1
+        && step.name.as_slice() == b"Drop".as_slice()
+        && step.root == 4
+        && step.made.is_empty()
+        && step.removed.as_slice() == [4u32, 5].as_slice()
+        && run.ending == Ending::Converged
+}
+
+fn bad_line(alloc: Global, text: &[u8]) -> Option<LogFault> {
+    if text.len() > 1000 {
+        return None;
+    }
+    match read_log(alloc, text) {
+        Err(Refusal::Fault(fault)) => Some(fault),
+        _ => None,
+    }
+}
+
+#[test]
+fn a_log_is_read_back(rt: HostRuntime) -> Result<(), Fail> {
+    let alloc = rt.alloc();
+    assert!(rt; is_read_back(alloc));
+    let cases: [(&'static [u8], u32); 3] = [
+        (HEADER, 2),
+        (
+            b"pdllrw-log 1\nstep 1 pattern 1 \"Drop\" root 4 made 5,4 removed 4\nend converged steps 1\n",
+            2,
+        ),
+        (
+            b"pdllrw-log 1\nend converged steps 0\nend converged steps 0\n",
+            3,
+        ),
+    ];
+    for (text, line) in &cases {
+        assert_eq!(rt; bad_line(alloc, *text), Some(LogFault::BadLine(*line)));
     }
     Ok(())
 }

@@ -1,0 +1,6 @@
+pub mod Indexing
+pub mod Fitting
+pub mod Asking
+pub mod Learning
+pub mod Learnt
+pub mod Known

@@ -1,0 +1,9 @@
+//! Where a pattern matches a module.
+#![tactic(auto)]
+
+pub mod index;
+pub mod matching;
+pub mod natives;
+#[cfg(test)]
+mod tests;
+pub mod thing;
