@@ -1,4 +1,0 @@
-pub mod View
-pub mod Ends
-pub mod Typing
-pub mod Worked
