@@ -1,8 +1,0 @@
-use Rattle.std.proofs.Common.{◌≡◌, drop, map}
-use Rattle.std.specs.Prelude.{◌↔◌}
-use Rattle.rewrite_model.specs.Things.{kind_of}
-use Rattle.greedy_driver.specs.View.{thing_of}
-use Rattle.greedy_driver.proofs.matching.have_kinds.Given as goal
-
-abbrev pub invariant-loop-t : goal.invariant-loop-t
-invariant-loop-t l = (map kind_of (map thing_of l.given) ≡ l.kinds) ↔ (map kind_of (map thing_of (drop l.t-index l.given)) ≡ l.rest)

@@ -1,9 +1,0 @@
-use Rattle.std.proofs.Common.{◌≡◌, drop, map}
-use Rattle.rewrite_model.specs.Things.{a_type, some_types}
-use Rattle.pdll_expand.specs.View.{expr_of}
-use Rattle.greedy_driver.specs.Learning.{known_of, tell_list}
-use Rattle.greedy_driver.proofs.matching.learning.tell_types.Given as goal
-
-abbrev pub invariant-loop-i : goal.invariant-loop-i
-invariant-loop-i l =
-    tell_list a_type some_types l.kinds (map expr_of (drop l.i l.exprs)) l.rest (known_of l.known) ≡ tell_list a_type some_types l.kinds (map expr_of l.exprs) l.all (known_of l.fn.known)

@@ -1,6 +1,0 @@
-use Rattle.std.proofs.Common.{◌≡◌, drop, Some}
-use Rattle.rewrite_model.specs.Things.{joined, each, type_of}
-use Rattle.greedy_driver.proofs.matching.learning.types_of.Given as goal
-
-abbrev pub invariant-loop-v : goal.invariant-loop-v
-invariant-loop-v l = joined (Some l.types) (each (type_of l.rows) (drop l.v-index l.vs)) ≡ each (type_of l.rows) l.vs

@@ -1,0 +1,4 @@
+//! The patterns of a file as data.
+#![tactic(auto)]
+
+pub mod action;

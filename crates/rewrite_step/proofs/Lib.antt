@@ -1,0 +1,6 @@
+pub mod Finding
+pub mod Loops
+pub mod Typing
+pub mod Concatenating
+pub mod Inside
+pub mod Kept

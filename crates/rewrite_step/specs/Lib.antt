@@ -1,0 +1,4 @@
+pub mod View
+pub mod Ends
+pub mod Typing
+pub mod Worked
