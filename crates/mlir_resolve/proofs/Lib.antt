@@ -6,6 +6,7 @@ pub mod Shared
 pub mod Steps
 pub mod Modules
 pub mod Searching
+pub mod Indexing
 pub mod Walks
 pub mod BadUses
 pub mod Spans

@@ -6,3 +6,4 @@ pub mod Walk
 pub mod Heads
 pub mod BadUses
 pub mod Walking
+pub mod Indexing

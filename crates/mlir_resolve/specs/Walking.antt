@@ -1,5 +1,5 @@
 -- The homes around a row, by its place in the list.
-use Rattle.std.specs.Prelude.{◌≡◌, ◌<◌, ◌==◌, ◌&&◌, not, nat_lt, position, ℕ, Bool, false, IsTrue, List, [], ◌∷◌, length, take, reverse, slice_get, Option, Some}
+use Rattle.std.specs.Prelude.{◌≡◌, ◌<◌, ◌==◌, ◌&&◌, not, nat_lt, position, ℕ, Bool, false, IsTrue, List, [], ◌∷◌, length, take, reverse, slice_get, Option, Some, IfSome}
 use Rattle.std.specs.Option.{option_map, option_map_or}
 use Rattle.std.specs.List.{list_any}
 use Rattle.mlir_tree.specs.declared.row.Home.{Home}
@@ -7,6 +7,8 @@ use Rattle.mlir_tree.specs.declared.row.Row.{Row}
 use Rattle.mlir_tree.specs.declared.value.Val.{Val}
 use Rattle.mlir_tree.specs.Module.{homes_around, home_eq, has_argument, is_visible}
 use Rattle.mlir_tree.specs.WellFormed.{AreDistinct, AreNested}
+use Rattle.mlir_resolve.specs.declared.index.RowIndex.{RowIndex}
+use Rattle.mlir_resolve.specs.Indexing.{Indexes}
 
 -- This home and those around it, which are homes of rows before the place.
 abbrev pub homes_from : List Row → ℕ → Option Home → List Home
@@ -23,9 +25,10 @@ number_at rows at = option_map (λ r. r.id) (slice_get rows at)
 abbrev pub AreRisingNumbers : List Row → Type 0
 AreRisingNumbers rows = (i j n m : ℕ) → i < j → number_at rows i ≡ Some n → number_at rows j ≡ Some m → n < m
 
--- Rows with different numbers, nested, and whether their numbers rise.
-pub record IsWalk (rows : List Row) (rising : Bool) : Type 0 where
+-- Rows with different numbers, nested, whether their numbers rise, and the index of their places, if there is one.
+pub record IsWalk (rows : List Row) (rising : Bool) (index : Option RowIndex) : Type 0 where
   pub risen : IsTrue rising → AreRisingNumbers rows
+  pub indexed : IfSome index (λ i. Indexes i rows)
   pub distinct : AreDistinct rows
   pub nested : AreNested rows
 

@@ -3,6 +3,7 @@
 
 mod entries;
 mod head;
+pub mod index;
 mod module;
 mod named;
 mod operands;
@@ -16,4 +17,4 @@ mod visibility;
 mod walk;
 
 pub use module::resolve;
-pub use visibility::well_formed;
+pub use visibility::{well_formed, well_formed_by};

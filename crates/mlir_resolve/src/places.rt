@@ -1,8 +1,10 @@
 // Finds rows by their numbers.
 ghost use Rattle.std.specs.Prelude.{◌≡◌, ◌<◌, ℕ, length, Some, None, IfSome, IsTrue, false};
 ghost use Rattle.mlir_tree.specs.Module.{has_row};
+ghost use Rattle.mlir_resolve.specs.Indexing.{Indexes};
 ghost use Rattle.mlir_resolve.specs.Walking.{number_at, AreRisingNumbers};
 
+use crate::index::RowIndex;
 use mlir_tree::row::Row;
 
 /// Whether the numbers of the rows rise.
@@ -57,4 +59,15 @@ pub fn place_of(rows: &[Row], rising: bool, id: u32) -> Option<usize>
     } else {
         scan(rows, id)
     }
+}
+
+/// The same by an index of the rows.
+#[tactic(auto, using(crate::proofs::Indexing::place_has, crate::proofs::Indexing::place_within, crate::proofs::Indexing::no_place))]
+pub fn indexed_place(rows: &[Row], index: &RowIndex, id: u32) -> Option<usize>
+    requires { Indexes index.now rows.now }
+    ensures found { IfSome result (λ p. number_at rows.now p ≡ Some id) }
+    ensures within { IfSome result (λ p. p < length rows.now) }
+    ensures none { result ≡ None → has_row rows.now id ≡ false }
+{
+    index.find(id)
 }

@@ -1,26 +1,29 @@
 // Whether each operand of a module exists and is visible.
 ghost use Rattle.std.specs.Prelude.{◌≡◌, ◌<◌, ◌≤◌, ◌^◌, ◌↔◌, ℕ, List, ◌∷◌, [], length, All, Some, None, IfSome, IsTrue, Option, Bool, false, ◌&&◌, ◌==◌, not, slice_get};
-ghost use Rattle.std.specs.Option.{option_map, option_map_or};
+ghost use Rattle.std.specs.Option.{option_copied, option_map, option_map_or};
 ghost use Rattle.std.specs.List.{list_any};
 ghost use Rattle.mlir_tree.specs.declared.row.Home.{Home as HomeOf};
 ghost use Rattle.mlir_tree.specs.declared.row.Row.{Row as RowOf};
 ghost use Rattle.mlir_tree.specs.declared.value.Val.TheVariants as vals;
-ghost use Rattle.mlir_tree.specs.Module.{home_eq, has_argument};
+ghost use Rattle.mlir_tree.specs.Module.{home_eq, has_argument, has_row};
 ghost use Rattle.mlir_tree.specs.WellFormed.{AreNumbered, AreNested, AreDistinct, HasSizes, HasVisibleOperands};
 ghost use Rattle.mlir_resolve.specs.BadUses.{bad_use};
+ghost use Rattle.mlir_resolve.specs.Indexing.{Indexes};
 ghost use Rattle.mlir_resolve.specs.Walking.{around_place, number_at, sees_at, operands_at, bad_place_at, IsWalk};
 
-use crate::places::{place_of, rise};
+use crate::index::RowIndex;
+use crate::places::{indexed_place, place_of, rise};
 use mlir_tree::bad_use::BadUse;
 use mlir_tree::row::{Home, Row};
 use mlir_tree::rows::Rows;
 use mlir_tree::value::Val;
 
-// Nested rows with different numbers, and whether the numbers rise.
+// Nested rows with different numbers, whether the numbers rise, and where the rows stand, if that is known.
 #[derive(Clone, Copy)]
 struct Walk<'a> {
     rows: &'a [Row],
     rising: bool,
+    index: Option<&'a RowIndex>,
 }
 
 fn has_argument(row: &Row, region: u16, index: u16) -> bool
@@ -33,9 +36,22 @@ fn has_argument(row: &Row, region: u16, index: u16) -> bool
 }
 
 impl Walk<'_> {
+    // The place of the row of this number.
+    fn place_of(&self, id: u32) -> Option<usize>
+        requires walk { IsWalk self.now.rows.now self.now.rising (option_copied self.now.index) }
+        ensures found { IfSome result (λ p. number_at self.now.rows.now p ≡ Some id) }
+        ensures within { IfSome result (λ p. p < length self.now.rows.now) }
+        ensures none { result ≡ None → has_row self.now.rows.now id ≡ false }
+    {
+        match self.index {
+            Some(index) => indexed_place(self.rows, index, id),
+            None => place_of(self.rows, self.rising, id),
+        }
+    }
+
     // The home of the row at a place, and the place of the row that has it.
     fn outer(&self, at: usize) -> Option<(Home, usize)>
-        requires walk { IsWalk self.now.rows.now self.now.rising }
+        requires walk { IsWalk self.now.rows.now self.now.rising (option_copied self.now.index) }
         requires within { at < length self.now.rows.now }
         ensures some { IfSome result (λ x. (x.1 < at) × (around_place self.now.rows.now at ≡ x.0 ∷ around_place self.now.rows.now x.1)) }
         ensures none { result ≡ None → around_place self.now.rows.now at ≡ [] }
@@ -43,7 +59,7 @@ impl Walk<'_> {
         let Some(home) = self.rows[at].home else {
             return None;
         };
-        let Some(place) = place_of(self.rows, self.rising, home.row) else {
+        let Some(place) = self.place_of(home.row) else {
             return None;
         };
         Some((home, place))
@@ -51,7 +67,7 @@ impl Walk<'_> {
 
     // Whether the row at a place stands inside this region.
     fn is_inside(&self, at: usize, home: Home) -> bool
-        requires walk { IsWalk self.now.rows.now self.now.rising }
+        requires walk { IsWalk self.now.rows.now self.now.rising (option_copied self.now.index) }
         requires within { at < length self.now.rows.now }
         ensures { result ≡ list_any (home_eq home) (around_place self.now.rows.now at) }
     {
@@ -67,7 +83,7 @@ impl Walk<'_> {
 
     // Whether the row at a place stands inside the row of this number.
     fn is_contained(&self, at: usize, owner: u32) -> bool
-        requires walk { IsWalk self.now.rows.now self.now.rising }
+        requires walk { IsWalk self.now.rows.now self.now.rising (option_copied self.now.index) }
         requires within { at < length self.now.rows.now }
         ensures { result ≡ list_any (λ h. h.row == owner) (around_place self.now.rows.now at) }
     {
@@ -83,7 +99,7 @@ impl Walk<'_> {
 
     // Whether the row at a place stands inside this region, if there is one.
     fn is_enclosed(&self, at: usize, home: Option<Home>) -> bool
-        requires walk { IsWalk self.now.rows.now self.now.rising }
+        requires walk { IsWalk self.now.rows.now self.now.rising (option_copied self.now.index) }
         requires within { at < length self.now.rows.now }
         ensures { result ≡ option_map_or (λ h. list_any (home_eq h) (around_place self.now.rows.now at)) home false }
     {
@@ -96,7 +112,7 @@ impl Walk<'_> {
     // Whether a result of the row at this place is visible.
     #[tactic(auto, using(crate::proofs::Walks::sees_result))]
     fn sees_result_of(&self, at: usize, place: usize, owner: u32, index: u16) -> bool
-        requires walk { IsWalk self.now.rows.now self.now.rising }
+        requires walk { IsWalk self.now.rows.now self.now.rising (option_copied self.now.index) }
         requires within { at < length self.now.rows.now }
         requires place { place < length self.now.rows.now }
         requires owner { number_at self.now.rows.now place ≡ Some owner }
@@ -117,11 +133,11 @@ impl Walk<'_> {
 
     #[tactic(auto, using(crate::proofs::Walks::sees_no_result))]
     fn sees_result(&self, at: usize, owner: u32, index: u16) -> bool
-        requires walk { IsWalk self.now.rows.now self.now.rising }
+        requires walk { IsWalk self.now.rows.now self.now.rising (option_copied self.now.index) }
         requires within { at < length self.now.rows.now }
         ensures { result ≡ sees_at self.now.rows.now at (vals.Res owner index) }
     {
-        match place_of(self.rows, self.rising, owner) {
+        match self.place_of(owner) {
             None => false,
             Some(place) => self.sees_result_of(at, place, owner, index),
         }
@@ -130,7 +146,7 @@ impl Walk<'_> {
     // Whether an argument of the row at this place is visible.
     #[tactic(auto, using(crate::proofs::Walks::sees_argument))]
     fn sees_argument_of(&self, at: usize, place: usize, home: Home, index: u16) -> bool
-        requires walk { IsWalk self.now.rows.now self.now.rising }
+        requires walk { IsWalk self.now.rows.now self.now.rising (option_copied self.now.index) }
         requires within { at < length self.now.rows.now }
         requires place { place < length self.now.rows.now }
         requires owner { number_at self.now.rows.now place ≡ Some home.row }
@@ -141,11 +157,11 @@ impl Walk<'_> {
 
     #[tactic(auto, using(crate::proofs::Walks::sees_no_argument))]
     fn sees_argument(&self, at: usize, home: Home, index: u16) -> bool
-        requires walk { IsWalk self.now.rows.now self.now.rising }
+        requires walk { IsWalk self.now.rows.now self.now.rising (option_copied self.now.index) }
         requires within { at < length self.now.rows.now }
         ensures { result ≡ sees_at self.now.rows.now at (vals.Arg home.row home.region index) }
     {
-        match place_of(self.rows, self.rising, home.row) {
+        match self.place_of(home.row) {
             None => false,
             Some(place) => self.sees_argument_of(at, place, home, index),
         }
@@ -153,7 +169,7 @@ impl Walk<'_> {
 
     // Whether the value exists and is visible at the row at a place.
     fn sees(&self, at: usize, value: Val) -> bool
-        requires walk { IsWalk self.now.rows.now self.now.rising }
+        requires walk { IsWalk self.now.rows.now self.now.rising (option_copied self.now.index) }
         requires within { at < length self.now.rows.now }
         ensures { result ≡ sees_at self.now.rows.now at value }
     {
@@ -165,7 +181,7 @@ impl Walk<'_> {
 
     // The first place of the row at a place whose operand isn't visible there.
     fn bad_place(&self, at: usize) -> Option<usize>
-        requires walk { IsWalk self.now.rows.now self.now.rising }
+        requires walk { IsWalk self.now.rows.now self.now.rising (option_copied self.now.index) }
         requires within { at < length self.now.rows.now }
         ensures place { result ≡ bad_place_at self.now.rows.now at }
         ensures within { IfSome result (λ k. k < length (operands_at self.now.rows.now at)) }
@@ -181,7 +197,7 @@ impl Walk<'_> {
 }
 
 fn first_bad_use(walk: &Walk<'_>) -> Option<BadUse>
-    requires walk { IsWalk walk.now.rows.now walk.now.rising }
+    requires walk { IsWalk walk.now.rows.now walk.now.rising (option_copied walk.now.index) }
     requires sizes { All HasSizes walk.now.rows.now }
     ensures { result ≡ bad_use walk.now.rows.now }
 {
@@ -212,5 +228,25 @@ pub fn well_formed(rows: &Rows) -> Option<BadUse>
     first_bad_use(&Walk {
         rows,
         rising: rise(rows),
+        index: None,
+    })
+}
+
+/// The same, where an index has the places of the rows.
+#[tactic(auto, using(crate::proofs::BadUses::none_exactly))]
+pub fn well_formed_by(rows: &Rows, index: &RowIndex) -> Option<BadUse>
+    requires index { Indexes index.now rows.now.rows }
+    requires numbers { AreNumbered rows.now }
+    requires nesting { AreNested rows.now.rows }
+    requires sizes { All HasSizes rows.now.rows }
+    // Which use it is.
+    ensures first { result ≡ bad_use rows.now.rows }
+    // None exactly where all operands are visible.
+    ensures none { (result ≡ None) ↔ All (HasVisibleOperands rows.now.rows) rows.now.rows }
+{
+    first_bad_use(&Walk {
+        rows: rows.rows.as_slice(),
+        rising: false,
+        index: Some(index),
     })
 }

@@ -1,4 +1,3 @@
-pub mod Indexing
 pub mod Fitting
 pub mod Asking
 pub mod Learning

@@ -1,5 +1,4 @@
 pub mod View
-pub mod Indexing
 pub mod Behind
 pub mod Asked
 pub mod Learning

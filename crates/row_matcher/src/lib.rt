@@ -1,7 +1,6 @@
 //! Where a pattern matches a module.
 #![tactic(auto)]
 
-pub mod index;
 pub mod matching;
 pub mod natives;
 #[cfg(test)]

@@ -9,7 +9,7 @@ ghost use Rattle.rewrite_model.specs.Holding.{Holds};
 ghost use Rattle.rewrite_model.specs.Matching.{MatchesBy, Matches};
 ghost use Rattle.rewrite_model.specs.Determined.{IsDetermined};
 ghost use Rattle.pdll_expand.specs.View.{demand_of};
-ghost use Rattle.row_matcher.specs.Indexing.{Indexes};
+ghost use Rattle.mlir_resolve.specs.Indexing.{Indexes};
 ghost use Rattle.row_matcher.specs.View.{thing_of, seen_of};
 ghost use Rattle.row_matcher.specs.Asked.{Asks};
 
@@ -18,11 +18,11 @@ pub mod holding;
 mod learning;
 pub mod parts;
 
-use crate::index::{RowIndex, row_of};
 use crate::matching::denoting::{is, seen_at};
 use crate::matching::holding::holds;
 use crate::matching::learning::told;
 use crate::thing::{Seen, Thing};
+use mlir_resolve::index::{RowIndex, row_of};
 use mlir_tree::row::Row;
 use mlir_tree::value::Val;
 use native_set::native::Kind;

@@ -1,8 +1,8 @@
 //! Matching on a small module.
 
-use crate::index::RowIndex;
 use crate::matching::match_at;
 use crate::thing::Thing;
+use mlir_resolve::index::RowIndex;
 use mlir_tree::row::Row;
 use mlir_tree::rows::Rows;
 use mlir_tree::ty::Ty;

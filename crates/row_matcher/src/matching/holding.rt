@@ -7,15 +7,15 @@ ghost use Rattle.rewrite_model.specs.Things as things;
 ghost use Rattle.rewrite_model.specs.Things.{each};
 ghost use Rattle.rewrite_model.specs.Holding.{thing_type, Holds};
 ghost use Rattle.pdll_expand.specs.View.{expr_of, parts_of, demand_of};
-ghost use Rattle.row_matcher.specs.Indexing.{Indexes};
+ghost use Rattle.mlir_resolve.specs.Indexing.{Indexes};
 ghost use Rattle.row_matcher.specs.Behind.{Leaves};
 ghost use Rattle.row_matcher.specs.View.{thing_of, seen_of};
 
-use crate::index::RowIndex;
 use crate::matching::denoting::{denoted, is, row_given, seen_at, type_of};
 use crate::matching::parts::has_parts;
 use crate::natives::{holds_of_one, holds_of_two};
 use crate::thing::{Seen, Thing};
+use mlir_resolve::index::RowIndex;
 use mlir_tree::row::Row;
 use mlir_tree::text::equal_texts;
 use mlir_tree::ty::Ty;

@@ -1,8 +1,8 @@
 use Rattle.std.proofs.Common.{◌≡◌, ◌≤◌, ℕ, drop, length}
 use Rattle.std.specs.Prelude.{nat_eq}
 use Rattle.indexmap.specs.IndexMap.{get}
-use Rattle.row_matcher.specs.Indexing.{place_from}
-use Rattle.row_matcher.proofs.index.RowIndex.new.Given as goal
+use Rattle.mlir_resolve.specs.Indexing.{place_from}
+use Rattle.mlir_resolve.proofs.index.RowIndex.new.Given as goal
 
 abbrev pub invariant-loop-at : goal.invariant-loop-at
 invariant-loop-at l = record {

@@ -2,7 +2,7 @@
 
 ghost use Rattle.std.specs.Prelude.{◌≡◌, slice_get, IfOk, option_copied, option_and_then};
 ghost use Rattle.mlir_tree.specs.Module.{row_of};
-ghost use Rattle.row_matcher.specs.Indexing.{place_of, Indexes};
+ghost use Rattle.mlir_resolve.specs.Indexing.{place_of, Indexes};
 
 use indexmap::IndexMap;
 use mlir_tree::row::Row;

@@ -3,7 +3,7 @@ use Rattle.std.specs.Prelude.{◌≡◌, ℕ, ◌==◌, nat_eq, List, Option}
 use Rattle.std.specs.List.{position_from}
 use Rattle.indexmap.specs.IndexMap.{get}
 use Rattle.mlir_tree.specs.declared.row.Row.{Row}
-use Rattle.row_matcher.specs.declared.index.RowIndex.{RowIndex}
+use Rattle.mlir_resolve.specs.declared.index.RowIndex.{RowIndex}
 
 abbrev pub place_of : RowIndex → ℕ → Option ℕ
 place_of index id = get nat_eq index.places id
