@@ -1,10 +1,9 @@
 -- What the program prints for each kind of fault of a pattern file.
 use Rattle.std.specs.Prelude.{ℕ, List, codes}
 use Rattle.pdll_syntax.specs.declared.fault.PatKind.{PatKind}
-use Rattle.pdll_syntax.specs.declared.fault.PatKind.TheVariants.{NotBuilt, TooLong, NotUtf8, BadByte, BadString, Syntax, CppBody, Include, TooMany, BenefitRange, Undefined, Redefined, WrongKind, WrongArity, UnknownNative, BadLiteral, TwoRanges, MultiRoot, Undetermined, NoResultTypes, BadRoot, AfterRoot, WrongPart}
+use Rattle.pdll_syntax.specs.declared.fault.PatKind.TheVariants.{TooLong, NotUtf8, BadByte, BadString, Syntax, CppBody, Include, TooMany, BenefitRange, Undefined, Redefined, WrongKind, WrongArity, UnknownNative, BadLiteral, TwoRanges, MultiRoot, Undetermined, NoResultTypes, BadRoot, AfterRoot, WrongPart}
 
 abbrev pub code_text : PatKind → List ℕ
-code_text NotBuilt = codes "P0 NotBuilt"
 code_text TooLong = codes "P1 TooLong"
 code_text NotUtf8 = codes "P2 NotUtf8"
 code_text BadByte = codes "P3 BadByte"

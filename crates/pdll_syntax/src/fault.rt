@@ -6,8 +6,6 @@ ghost use Rattle.pdll_syntax.specs.Faults.{code_text};
 /// What is wrong with a pattern file.
 #[derive(Clone, Copy, Debug, PartialEq, Eq)]
 pub enum PatKind {
-    /// The file is read, and has a pattern of a form that isn't built yet.
-    NotBuilt,
     /// The file has more bytes than the limit.
     TooLong,
     /// The bytes aren't UTF-8.
@@ -68,7 +66,6 @@ impl PatKind {
         ensures { result.now ≡ code_text self }
     {
         match self {
-            PatKind::NotBuilt => b"P0 NotBuilt",
             PatKind::TooLong => b"P1 TooLong",
             PatKind::NotUtf8 => b"P2 NotUtf8",
             PatKind::BadByte => b"P3 BadByte",

@@ -247,7 +247,7 @@ fn copied_parts_equal_them_and_no_others(rt: HostRuntime) -> Result<(), Fail> {
 
 #[test]
 fn kinds_have_their_codes(rt: HostRuntime) {
-    assert!(rt; PatKind::NotBuilt.code_text() == b"P0 NotBuilt".as_slice());
+    assert!(rt; PatKind::TooLong.code_text() == b"P1 TooLong".as_slice());
     assert!(rt; PatKind::BenefitRange.code_text() == b"P9 BenefitRange".as_slice());
     assert!(rt; PatKind::WrongPart.code_text() == b"P22 WrongPart".as_slice());
 }

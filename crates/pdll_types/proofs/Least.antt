@@ -3,25 +3,24 @@ use Rattle.std.proofs.Common.{◌≡◌, ℕ, zero, suc, ◌==◌, nat_lt, Bool,
 use Rattle.std.proofs.lemmas.Bool.Decides.{nat_tests}
 use Rattle.pdll_syntax.specs.declared.fault.PatFault.{PatFault}
 use Rattle.pdll_syntax.specs.declared.fault.PatKind.{PatKind}
-use Rattle.pdll_syntax.specs.declared.fault.PatKind.TheVariants.{NotBuilt, TooLong, NotUtf8, BadByte, BadString, Syntax, CppBody, Include, TooMany, BenefitRange, Undefined, Redefined, WrongKind, WrongArity, UnknownNative, BadLiteral, TwoRanges, MultiRoot, Undetermined, NoResultTypes, BadRoot, AfterRoot, WrongPart}
+use Rattle.pdll_syntax.specs.declared.fault.PatKind.TheVariants.{TooLong, NotUtf8, BadByte, BadString, Syntax, CppBody, Include, TooMany, BenefitRange, Undefined, Redefined, WrongKind, WrongArity, UnknownNative, BadLiteral, TwoRanges, MultiRoot, Undetermined, NoResultTypes, BadRoot, AfterRoot, WrongPart}
 use Rattle.pdll_types.specs.Accepted.{code_number, is_before, first_with, first_of_faults}
 use Rattle.pdll_types.specs.Walk.{noted, all_noted}
 
 -- ---- a code tells its kind
 
 below : List PatKind → ℕ → PatKind
-below [] n = NotBuilt
+below [] n = TooLong
 below (k ∷ ks) zero = k
 below (k ∷ ks) (suc n) = below ks n
 
 kinds : List PatKind
 kinds =
-    NotBuilt ∷ TooLong ∷ NotUtf8 ∷ BadByte ∷ BadString ∷ Syntax ∷ CppBody ∷ Include ∷ TooMany ∷ BenefitRange ∷ Undefined ∷ Redefined ∷ WrongKind
+    TooLong ∷ TooLong ∷ NotUtf8 ∷ BadByte ∷ BadString ∷ Syntax ∷ CppBody ∷ Include ∷ TooMany ∷ BenefitRange ∷ Undefined ∷ Redefined ∷ WrongKind
     ∷ WrongArity ∷ UnknownNative ∷ BadLiteral ∷ TwoRanges ∷ MultiRoot ∷ Undetermined ∷ NoResultTypes ∷ BadRoot ∷ AfterRoot ∷ WrongPart ∷ []
 
 kind_back : (k : PatKind) → below kinds (code_number k) ≡ k
 unfolding below kinds
-kind_back NotBuilt = refl
 kind_back TooLong = refl
 kind_back NotUtf8 = refl
 kind_back BadByte = refl

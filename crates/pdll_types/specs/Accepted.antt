@@ -4,7 +4,7 @@ use Rattle.std.specs.Prelude.{◌≡◌, ◌⊎◌, ℕ, ◌+◌, Bool, true, fa
 use Rattle.std.specs.Option.{unwrap_or}
 use Rattle.pdll_syntax.specs.declared.fault.PatFault.{PatFault}
 use Rattle.pdll_syntax.specs.declared.fault.PatKind.{PatKind}
-use Rattle.pdll_syntax.specs.declared.fault.PatKind.TheVariants.{NotBuilt, TooLong, NotUtf8, BadByte, BadString, Syntax, CppBody, Include, TooMany, BenefitRange, Undefined, Redefined, WrongKind, WrongArity, UnknownNative, BadLiteral, TwoRanges, MultiRoot, Undetermined, NoResultTypes, BadRoot, AfterRoot, WrongPart}
+use Rattle.pdll_syntax.specs.declared.fault.PatKind.TheVariants.{TooLong, NotUtf8, BadByte, BadString, Syntax, CppBody, Include, TooMany, BenefitRange, Undefined, Redefined, WrongKind, WrongArity, UnknownNative, BadLiteral, TwoRanges, MultiRoot, Undetermined, NoResultTypes, BadRoot, AfterRoot, WrongPart}
 use Rattle.pdll_syntax.specs.declared.file.Decl.{Decl}
 use Rattle.pdll_syntax.specs.declared.file.PatFile.{PatFile}
 use Rattle.pdll_syntax.specs.declared.file.Decl.TheVariants as decl
@@ -89,7 +89,6 @@ faults_of c d =
 
 -- The number in a fault's code.
 abbrev pub code_number : PatKind → ℕ
-code_number NotBuilt = 0
 code_number TooLong = 1
 code_number NotUtf8 = 2
 code_number BadByte = 3

@@ -45,7 +45,6 @@ fn code_number(kind: PatKind) -> u8
     ensures { result ≡ code_number kind }
 {
     match kind {
-        PatKind::NotBuilt => 0,
         PatKind::TooLong => 1,
         PatKind::NotUtf8 => 2,
         PatKind::BadByte => 3,

@@ -1,0 +1,17 @@
+use Rattle.std.proofs.Common.{ℕ, map}
+use Rattle.mlir_tree.specs.declared.rows.Rows.{Rows}
+use Rattle.mlir_tree.specs.WellFormed.{IsWellFormed}
+use Rattle.rewrite_model.specs.Running.{Course, Runs, Reaches}
+use Rattle.pdll_patterns.specs.View.{pattern_of}
+use Rattle.greedy_driver.specs.Course.{behind}
+use Rattle.greedy_driver.proofs.drive.drive.Given as goal
+
+abbrev pub invariant-loop-taken : goal.invariant-loop-taken
+invariant-loop-taken l = record {
+  well_formed : IsWellFormed l.rows;
+  runs : (c : Course) → Runs (map pattern_of l.patterns) l.left l.rows c → Runs (map pattern_of l.patterns) l.fn.bound l.fn.rows (behind l.taken c);
+  reaches : (k : Rows) → Reaches (map pattern_of l.patterns) l.left l.rows k → Reaches (map pattern_of l.patterns) l.fn.bound l.fn.rows k;
+}
+
+abbrev pub decreases-loop-taken : goal.decreases-loop-taken
+decreases-loop-taken l = l.left

@@ -1,0 +1,8 @@
+//! The run: rewrites, again and again, the first operation in text order at which a pattern matches.
+#![tactic(auto)]
+
+mod drive;
+pub mod next;
+pub mod turn;
+
+pub use drive::drive_rows;

@@ -1,0 +1,168 @@
+//! One turn of the run.
+
+ghost use Rattle.std.specs.Prelude.{◌≡◌, ◌<◌, ◌∷◌, length, map, slice_get, IfOk, Ok, Some, OnErr};
+ghost use Rattle.mlir_tree.specs.WellFormed.{IsWellFormed};
+ghost use Rattle.mlir_tree.specs.declared.refusal.Refusal.TheVariants.{Fault};
+ghost use Rattle.rewrite_model.specs.Determined.{AreDetermined};
+ghost use Rattle.rewrite_model.specs.Step.{step};
+ghost use Rattle.rewrite_model.specs.Running.{taken, ending_by, Reaches};
+ghost use Rattle.row_matcher.specs.View.{thing_of};
+ghost use Rattle.pdll_patterns.specs.View.{pattern_of};
+ghost use Rattle.rewrite_step.specs.View.{stop_of};
+ghost use Rattle.greedy_driver.specs.Found.{IsFirst};
+ghost use Rattle.greedy_driver.specs.Course.{IsTurn};
+
+use crate::next::{Found, next};
+use mlir_resolve::index::RowIndex;
+use mlir_tree::refusal::Refusal;
+use mlir_tree::rows::Rows;
+use pdll_patterns::pattern::Pattern;
+use rewrite_model::laws::{numbers_rise, steps_keep_well_formed};
+use rewrite_model::run::{BoundKind, Broken, Ending, Hit, StepRec};
+use rewrite_step::step::{made_numbers, removed_numbers, step};
+use rewrite_step::stop::Stop;
+use row_matcher::thing::Thing;
+use sqlite_items::Items;
+use std::alloc::{AllocError, Global};
+
+/// What a turn of the run comes to.
+#[derive(Drop)]
+pub enum Turn {
+    /// The run is over.
+    Ended(Ending),
+    /// A step was taken.
+    Took(StepRec),
+}
+
+/// How a run ends whose next step is stopped.
+fn ending_by(hit: Hit, stop: Stop) -> Ending
+    ensures { result ≡ ending_by hit (stop_of stop) }
+{
+    match stop {
+        Stop::Breaks(why) => Ending::Broken(Broken {
+            pattern: hit.pattern,
+            root: hit.row,
+            why,
+        }),
+        Stop::Bound(kind) => Ending::Bound(kind, hit),
+    }
+}
+
+/// What the log tells of the step from one module to the next.
+fn told(
+    alloc: Global,
+    pattern: &Pattern<'_>,
+    hit: Hit,
+    before: &Rows,
+    after: &Rows,
+) -> Result<StepRec, AllocError>
+    ensures { IfOk result (λ t. t ≡ taken (pattern_of pattern.now) hit before.now after.now) }
+{
+    let made = made_numbers(alloc, before, after)?;
+    let removed = removed_numbers(alloc, before, after)?;
+    let name = Items::from_slice(alloc, pattern.name)?;
+    numbers_rise();
+    Ok(StepRec {
+        pattern: hit.pattern,
+        name,
+        root: hit.row,
+        made,
+        removed,
+    })
+}
+
+/// Takes a step. Where it can't be taken, the module stays as it is.
+fn advance(
+    alloc: Global,
+    rows: &mut Rows,
+    pattern: &Pattern<'_>,
+    hit: Hit,
+    given: &[Thing],
+) -> Result<StepRec, Refusal<Stop>>
+    requires { IsWellFormed rows.old }
+    ensures steps { IfOk result (λ t. step (pattern_of pattern.now) (map thing_of given.now) hit.row rows.old ≡ Ok rows.new) }
+    ensures told { IfOk result (λ t. t ≡ taken (pattern_of pattern.now) hit rows.old rows.new) }
+    ensures stops { (s : _) → result ≡ Err (Fault s) → step (pattern_of pattern.now) (map thing_of given.now) hit.row rows.old ≡ Err (stop_of s) }
+    ensures stays { OnErr result (rows.new ≡ rows.old) }
+    ensures well_formed { IsWellFormed rows.new }
+{
+    let after = match step(alloc, rows, given, hit.row, pattern.actions.as_slice()) {
+        Err(stop) => return Err(stop),
+        Ok(after) => after,
+    };
+    let told = told(alloc, pattern, hit, rows, &after)?;
+    steps_keep_well_formed();
+    *rows = after;
+    Ok(told)
+}
+
+/// The place of a pattern as a number.
+fn number_of(at: usize) -> Result<u32, AllocError>
+    ensures { IfOk result (λ n. n ≡ at) }
+{
+    if at > u32::MAX as usize {
+        return Err(AllocError);
+    }
+    Ok(at as u32)
+}
+
+/// The first operation at which a pattern matches, with its best pattern.
+fn locate(
+    alloc: Global,
+    rows: &Rows,
+    patterns: &[Pattern<'_>],
+) -> Result<Option<(u32, Found)>, AllocError>
+    requires { ∥ AreDetermined (map pattern_of patterns.now) ∥₁ }
+    ensures { IfOk result (λ o. IsFirst (map pattern_of patterns.now) rows.now.rows o) }
+{
+    let index = RowIndex::new(alloc, rows)?;
+    next(alloc, rows.rows.as_slice(), &index, patterns)
+}
+
+/// Takes the step that is next, where steps are left.
+fn take(
+    alloc: Global,
+    rows: &mut Rows,
+    patterns: &[Pattern<'_>],
+    left: u32,
+    row: u32,
+    found: &Found,
+) -> Result<Turn, AllocError>
+    requires well_formed { IsWellFormed rows.old }
+    requires found { IsFirst (map pattern_of patterns.now) rows.old.rows (Some (row, found.now)) }
+    ensures turn { IfOk result (λ t. IsTurn (map pattern_of patterns.now) left rows.old rows.new t) }
+    ensures reached { Reaches (map pattern_of patterns.now) left rows.old rows.new }
+    ensures well_formed { IsWellFormed rows.new }
+{
+    let hit = Hit {
+        pattern: number_of(found.at)?,
+        row,
+    };
+    if left == 0 {
+        return Ok(Turn::Ended(Ending::Bound(BoundKind::Rewrites, hit)));
+    }
+    match advance(alloc, rows, &patterns[found.at], hit, found.given.as_slice()) {
+        Ok(told) => Ok(Turn::Took(told)),
+        Err(Refusal::Fault(stop)) => Ok(Turn::Ended(ending_by(hit, stop))),
+        Err(Refusal::NoMemory) => Err(AllocError),
+    }
+}
+
+/// One turn of the run, where so many steps are left.
+pub fn go_on(
+    alloc: Global,
+    rows: &mut Rows,
+    patterns: &[Pattern<'_>],
+    left: u32,
+) -> Result<Turn, AllocError>
+    requires well_formed { IsWellFormed rows.old }
+    requires determined { ∥ AreDetermined (map pattern_of patterns.now) ∥₁ }
+    ensures turn { IfOk result (λ t. IsTurn (map pattern_of patterns.now) left rows.old rows.new t) }
+    ensures reached { Reaches (map pattern_of patterns.now) left rows.old rows.new }
+    ensures well_formed { IsWellFormed rows.new }
+{
+    match locate(alloc, rows, patterns)? {
+        None => Ok(Turn::Ended(Ending::Converged)),
+        Some((row, found)) => take(alloc, rows, patterns, left, row, &found),
+    }
+}
