@@ -1,7 +1,7 @@
 -- The command, as what a parse reads of it: three options with one value each, and files.
-use Rattle.std.specs.Prelude.{ℕ, true, List, [], ◌∷◌, Some, codes}
+use Rattle.std.specs.Prelude.{ℕ, true, List, [], Some, codes}
 use Rattle.clap.specs.Lexer.{usize_max}
-use Rattle.clap.specs.Simple.{App, new_app, new_shape, new_rule, with_rule}
+use Rattle.clap.specs.Simple.{App, new_shape, new_rule, with_rule}
 use Rattle.clap.specs.Walk.{Rule}
 
 abbrev pub option : List ℕ → Rule

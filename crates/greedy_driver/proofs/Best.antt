@@ -1,9 +1,8 @@
 -- The best pattern at an operation, one pattern after another.
-use Rattle.std.proofs.Common.{◌≡◌, ◌<◌, ◌≤◌, ℕ, zero, suc, ◌+◌, Bool, true, false, ◌⊎◌, inl, inr, List, [], ◌∷◌, ◌++◌, length, map, slice_get, slice_index_or, Option, Some, None, refl, sym, ap, subst, ◌∙◌, arith, ⊎_elim}
+use Rattle.std.proofs.Common.{◌≡◌, ◌<◌, ◌≤◌, ℕ, zero, suc, ◌+◌, true, false, ◌⊎◌, inl, inr, List, [], ◌∷◌, ◌++◌, length, map, slice_get, slice_index_or, Option, Some, None, refl, sym, ap, subst, ◌∙◌, arith, ⊎_elim}
 use Rattle.std.proofs.Math.Logic.{∥∥₁_elim}
-use Rattle.std.specs.Prelude.{nat_le, IfSome, IfNone, take, drop}
+use Rattle.std.specs.Prelude.{IfSome, IfNone, take, drop}
 use Rattle.std.specs.Option.{option_map_or}
-use Rattle.std.specs.List.{AllByRecursion}
 use Rattle.std.proofs.lemmas.Bool.Decides.{nat_tests}
 use Rattle.mlir_tree.specs.declared.row.Row.{Row}
 use Rattle.rewrite_model.specs.Pattern.{Pattern}
@@ -15,7 +14,7 @@ use Rattle.pdll_patterns.specs.declared.pattern.Pattern.{Pattern as PatternNode}
 use Rattle.pdll_patterns.specs.View.{pattern_of}
 use Rattle.row_matcher.specs.declared.thing.Thing.{Thing as ThingNode}
 use Rattle.greedy_driver.specs.declared.next.Found.{Found}
-use Rattle.greedy_driver.specs.Found.{IsFound, IsBestOf, NoneOf, BestOf, IsFirst, benefit_at, is_as_good}
+use Rattle.greedy_driver.specs.Found.{IsBestOf, NoneOf, BestOf, IsFirst, benefit_at, is_as_good}
 
 pub when_some : {A : Type 0} (P : A → Type 0) (o : Option A) (a : A) → o ≡ Some a → IfSome o P → P a
 when_some P o a e h = subst (λ x. IfSome x P) e h
@@ -59,18 +58,23 @@ benefit_of ps k p e = ap (λ o. option_map_or (λ q. q.benefit) o 0) e
 pub kept : (ps : List Pattern) (rows : List Row) (id at : ℕ) (q : Pattern) (o : Option Found) → slice_get ps at ≡ Some q
     → is_as_good ps o at ≡ true → BestOf ps rows id at o → BestOf ps rows id (at + 1) o
 kept ps rows id at q None e good b = absurd (cc)
-kept ps rows id at q (Some f) e good b = (b.0, record {
+kept ps rows id at q (Some f) e good b = (
+  b.0,
+  record {
     found = b.1.found;
     within = omega (arith, b.1.within);
     best = λ j r l g m. ⊎_elim
         (λ before. b.1.best j r before g m)
         (λ here. at_it j r (omega (arith, l, here)) g)
         (order j at);
-  }) where
+  },
+) where
   p : Pattern
   p = b.0
+
   less : benefit_at ps at ≤ benefit_at ps f.at
   less = grind (arith, nat_tests)
+
   at_it : (j : ℕ) (r : Pattern) → j ≡ at → slice_get ps j ≡ Some r → (r.benefit < b.0.benefit) ⊎ ((r.benefit ≡ b.0.benefit) × (f.at ≤ j))
   at_it j r here g =
       let s : r ≡ q = same ps j at r q here g e in
@@ -88,14 +92,17 @@ missed ps rows id at q None e none b = λ j r l g m. ⊎_elim
     (λ before. b j r before g m)
     (λ here. none (subst (λ x. Matches rows x id) (same ps j at r q (omega (arith, l, here)) g e) m))
     (order j at)
-missed ps rows id at q (Some f) e none b = (b.0, record {
+missed ps rows id at q (Some f) e none b = (
+  b.0,
+  record {
     found = b.1.found;
     within = omega (arith, b.1.within);
     best = λ j r l g m. ⊎_elim
         (λ before. b.1.best j r before g m)
         (λ here. absurd_from (none (subst (λ x. Matches rows x id) (same ps j at r q (omega (arith, l, here)) g e) m)))
         (order j at);
-  }) where
+  },
+) where
   absurd_from : {A : Type 0} → ⊥ → A
   absurd_from x = elim x [ ]
 
@@ -103,26 +110,33 @@ missed ps rows id at q (Some f) e none b = (b.0, record {
 pub bettered : (ps : List Pattern) (rows : List Row) (id at : ℕ) (q : Pattern) (o : Option Found) (given : List ThingNode) → slice_get ps at ≡ Some q
     → is_as_good ps o at ≡ false → MatchesBy rows q (map thing_of given) id → BestOf ps rows id at o
     → BestOf ps rows id (at + 1) (Some (record { at = at; given = given }))
-bettered ps rows id at q None given e good m b = (q, record {
+bettered ps rows id at q None given e good m b = (
+  q,
+  record {
     found = record { declared = e; matches = m };
     within = omega arith;
     best = λ j r l g n. ⊎_elim
         (λ before. absurd_from (b j r before g n))
         (λ here. inr (ap (λ x. x.benefit) (same ps j at r q (omega (arith, l, here)) g e), omega (arith, here)))
         (order j at);
-  }) where
+  },
+) where
   absurd_from : {A : Type 0} → ⊥ → A
   absurd_from x = elim x [ ]
-bettered ps rows id at q (Some f) given e good m b = (q, record {
+bettered ps rows id at q (Some f) given e good m b = (
+  q,
+  record {
     found = record { declared = e; matches = m };
     within = omega arith;
     best = λ j r l g n. ⊎_elim
         (λ before. inl (⊎_elim (λ lower. omega (arith, lower, more)) (λ equal. omega (arith, equal.0, more)) (b.1.best j r before g n)))
         (λ here. inr (ap (λ x. x.benefit) (same ps j at r q (omega (arith, l, here)) g e), omega (arith, here)))
         (order j at);
-  }) where
+  },
+) where
   above : benefit_at ps f.at < benefit_at ps at
   above = grind (arith, nat_tests)
+
   more : b.0.benefit < q.benefit
   more = omega (arith, above, benefit_of ps f.at b.0 b.1.found.declared, benefit_of ps at q e)
 
@@ -148,15 +162,19 @@ is_best ps rows id f p b = record {
 -- the first row at which one matches
 pub first : (ps : List PatternNode) (rows before after : List Row) (r : Row) (f : Found) → rows ≡ before ++ (r ∷ after) → NoneAmong (map pattern_of ps) rows before
     → BestOf (map pattern_of ps) rows r.id (length ps) (Some f) → IsFirst (map pattern_of ps) rows (Some (r.id, f))
-first ps rows before after r f e none b = (b.0, record {
-  before = before;
-  row = r;
-  after = after;
-  in_order = e;
-  none_before = none;
-  number = refl;
-  best = is_best ps rows r.id f b.0 b.1;
-}, b.1.found)
+first ps rows before after r f e none b = (
+  b.0,
+  record {
+    before = before;
+    row = r;
+    after = after;
+    in_order = e;
+    none_before = none;
+    number = refl;
+    best = is_best ps rows r.id f b.0 b.1;
+  },
+  b.1.found,
+)
 
 cut_at : (rows : List Row) (k : ℕ) (d : Row) → k < length rows → rows ≡ take k rows ++ (slice_index_or rows k d ∷ drop (suc k) rows)
 cut_at [] k d l = absurd (omega (arith, l))

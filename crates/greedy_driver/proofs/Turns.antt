@@ -1,18 +1,18 @@
 -- One turn of the run.
-use Rattle.std.proofs.Common.{◌≡◌, ◌<◌, ◌-◌, ℕ, zero, suc, List, [], ◌∷◌, ◌++◌, map, slice_get, Option, Some, None, Result, Ok, Err, refl, sym, ap, subst, ◌∙◌, arith}
+use Rattle.std.proofs.Common.{◌≡◌, ◌<◌, ◌-◌, ℕ, zero, suc, List, [], ◌∷◌, ◌++◌, map, slice_get, Option, Some, Result, Ok, Err, sym, ap, subst, ◌∙◌, arith}
 use Rattle.std.proofs.lemmas.List.{append_assoc}
 use Rattle.mlir_tree.specs.declared.rows.Rows.{Rows}
 use Rattle.mlir_tree.specs.declared.refusal.Refusal.{Refusal}
 use Rattle.mlir_tree.specs.declared.refusal.Refusal.TheVariants.{Fault}
 use Rattle.rewrite_model.specs.declared.run.Hit.{Hit}
-use Rattle.rewrite_model.specs.declared.run.Ending.TheVariants.{Converged, Bound}
+use Rattle.rewrite_model.specs.declared.run.Ending.TheVariants.{Bound}
 use Rattle.rewrite_model.specs.declared.run.BoundKind.TheVariants.{Rewrites}
 use Rattle.rewrite_model.specs.Taken.{Taken, KeepsOrder, step_of}
 use Rattle.rewrite_model.specs.Pattern.{Pattern}
 use Rattle.rewrite_model.specs.Matching.{MatchesBy}
 use Rattle.rewrite_model.specs.Making.{Stop, Outcome}
 use Rattle.rewrite_model.specs.Step.{step, made_numbers, removed_numbers}
-use Rattle.rewrite_model.specs.Running.{Course, ended, ending_by, taken, after_step, IsNext, Runs, converges, is_bounded, is_stopped, goes_on, Reaches, stays, steps_on}
+use Rattle.rewrite_model.specs.Running.{Course, ended, ending_by, taken, after_step, IsNext, Runs, is_bounded, is_stopped, goes_on, Reaches, stays, steps_on}
 use Rattle.row_matcher.specs.View.{thing_of}
 use Rattle.rewrite_step.specs.View.{stop_of}
 use Rattle.rewrite_step.specs.Ends.{Ends}
@@ -73,10 +73,11 @@ stops ps m (suc left) k row q f s l e there x h = is_stopped
     (subst (λ h. IsNext ps m.rows h q) (sym (hit_is k f.at row e)) (subst (IsNext ps m.rows (hit_of f.at row)) (same x) x.1))
     (subst (λ p. MatchesBy m.rows p (map thing_of f.given) row) (same x) x.2.matches)
     h where
-  the_same : (o : Option Pattern) (p r : Pattern) → o ≡ Some p → o ≡ Some r → p ≡ r
-  the_same o p r a b = cc
-  same : (x : IsFirst ps m.rows (Some (row, f))) → x.0 ≡ q
-  same x = the_same (slice_get ps f.at) x.0 q x.2.declared there
+      the_same : (o : Option Pattern) (p r : Pattern) → o ≡ Some p → o ≡ Some r → p ≡ r
+      the_same o p r a b = cc
+
+      same : (x : IsFirst ps m.rows (Some (row, f))) → x.0 ≡ q
+      same x = the_same (slice_get ps f.at) x.0 q x.2.declared there
 
 -- ---- the run, one turn after another
 

@@ -141,7 +141,13 @@ fn take(
     if left == 0 {
         return Ok(Turn::Ended(Ending::Bound(BoundKind::Rewrites, hit)));
     }
-    match advance(alloc, rows, &patterns[found.at], hit, found.given.as_slice()) {
+    match advance(
+        alloc,
+        rows,
+        &patterns[found.at],
+        hit,
+        found.given.as_slice(),
+    ) {
         Ok(told) => Ok(Turn::Took(told)),
         Err(Refusal::Fault(stop)) => Ok(Turn::Ended(ending_by(hit, stop))),
         Err(Refusal::NoMemory) => Err(AllocError),

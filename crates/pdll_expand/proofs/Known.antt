@@ -1,45 +1,28 @@
 -- What the program knows of the constraints that are declared.
-use Rattle.std.proofs.Common.{◌≡◌, ℕ, Bool, true, false, cond, List, [], ◌∷◌, Option, Some, refl, ap, ◌∙◌}
-use Rattle.std.specs.Option.{option_map_or}
-use Rattle.std.specs.HashMap.{get_by, UpdatesBy}
+use Rattle.std.proofs.Common.{◌≡◌, ℕ, Bool, true, false, List, [], ◌∷◌, ◌++◌, refl, ap, ◌∙◌}
 use Rattle.std.specs.Str.{bytes_eq}
-use Rattle.std.proofs.lemmas.Map.Text.{hash_map_updates_str}
 use Rattle.pdll_syntax.specs.declared.file.CallDecl.{CallDecl}
 use Rattle.pdll_syntax.specs.declared.file.Decl.{Decl}
 use Rattle.pdll_syntax.specs.declared.file.Decl.TheVariants as decl
-use Rattle.pdll_syntax.specs.declared.stmt.Param.{Param}
-use Rattle.native_set.specs.declared.native.Kind.TheVariants as kind
-use Rattle.rewrite_model.specs.Doing.{pure}
-use Rattle.rewrite_model.specs.Names.{of_kind, written_kind}
-use Rattle.rewrite_model.specs.Expanding.{constraints, constrains_if, first_param_kind}
-use Rattle.rewrite_model.specs.Own.{silent}
-use Rattle.pdll_expand.specs.declared.constraints.Constraints.{Constraints}
-use Rattle.pdll_expand.specs.declared.written.Written.{Written as WrittenNode}
-use Rattle.pdll_expand.specs.View.{written_of}
-use Rattle.pdll_expand.specs.Table.{quiet, Knows}
-
--- calls apart, they are the constraints of the model
-pub quiet_is : (c : Constraints) (earlier : List Decl) → Knows c earlier → quiet c ≡ silent (constraints earlier)
-quiet_is c earlier h = λ i n. record { param = h n i; call = λ xs. pure tt }
-
-pub same_param : (c : Constraints) (earlier : List Decl) (ps : List Param) → Knows c earlier → first_param_kind (quiet c) ps ≡ first_param_kind (constraints earlier) ps
-same_param c earlier [] h = refl
-same_param c earlier (p ∷ ps) h = λ i. written_kind (λ n. h n i) p.refs
-
-one_more : (b : Bool) (w : WrittenNode) (o : Option WrittenNode) (earlier : List Decl) (call : CallDecl) (n : List ℕ)
-    → written_of w ≡ first_param_kind (constraints earlier) call.params
-    → option_map_or written_of o (of_kind kind.Value) ≡ (constraints earlier n).param
-    → option_map_or written_of (cond b (Some w) o) (of_kind kind.Value) ≡ (constrains_if b (constraints earlier) call n).param
-one_more true w o earlier call n e h = e
-one_more false w o earlier call n e h = h
+use Rattle.rewrite_model.specs.MatchPart.{Constrains}
+use Rattle.rewrite_model.specs.Expanding.{constraints, constrains_if}
+use Rattle.pdll_expand.specs.Behind.{behind}
+use Rattle.pdll_expand.specs.Table.{told}
+use Rattle.pdll_expand.proofs.Behind.{turned_more}
 
 -- a constraint is added
-pub declared : (c d : Constraints) (call : CallDecl) (w : WrittenNode) (name : List ℕ) (earlier : List Decl)
-    → UpdatesBy (λ x y. bytes_eq x.now y.now) (λ k. bytes_eq name k.now) c.params d.params (Some w)
-    → name ≡ call.name.text
-    → written_of w ≡ first_param_kind (constraints earlier) call.params
-    → Knows c earlier → Knows d (decl.Constraint call ∷ earlier)
-declared c d call w name earlier u e k h n =
-    ap (λ o. option_map_or written_of o (of_kind kind.Value)) (hash_map_updates_str name c.params d.params (Some w) u n)
-    ∙ (one_more (bytes_eq name n) w (get_by (λ k. bytes_eq n k.now) c.params) earlier call n k (h n)
-    ∙ ap (λ m. (constrains_if (bytes_eq m n) (constraints earlier) call n).param) e)
+pub one_more : (cs ds : List CallDecl) (c : CallDecl) (earlier : List Decl) → ds ≡ cs ++ c ∷ []
+    → ((n : List ℕ) → behind cs n ≡ constraints earlier n) → (n : List ℕ) → behind ds n ≡ constraints (decl.Constraint c ∷ earlier) n
+one_more cs ds c earlier e h n =
+    ap (λ bs. behind bs n) e
+    ∙ (ap (λ bs. constraints bs n) (turned_more cs c [])
+    ∙ ap (λ (q : List ℕ → Constrains). constrains_if (bytes_eq c.name.text n) q c n) (λ i m. h m i))
+
+-- all of them
+pub all_known : (cs : List CallDecl) (earlier : List Decl) → ((n : List ℕ) → behind cs n ≡ constraints earlier n) → behind cs ≡ constraints earlier
+all_known cs earlier h = λ i n. h n i
+
+-- the first parameter's kind doesn't depend on what calls ask for
+pub told_param : (b : Bool) (q : List ℕ → Constrains) (n : List ℕ) → (told b q n).param ≡ (q n).param
+told_param true q n = refl
+told_param false q n = refl

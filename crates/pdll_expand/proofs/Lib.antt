@@ -1,9 +1,12 @@
+pub mod Behind
+pub mod Bodies
+pub mod Calling
+pub mod Depth
 pub mod Known
 pub mod Loops
+pub mod Marking
 pub mod Members
 pub mod Names
 pub mod Plain
-pub mod Quiet
 pub mod Steps
 pub mod Utf8
-pub mod Marking

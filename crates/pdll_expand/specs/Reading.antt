@@ -4,12 +4,14 @@ use Rattle.mlir_tree.specs.Tree.{unit}
 use Rattle.pdll_syntax.specs.ExprTree.{Expr as Syntax, OpExpr, operation, MaybeExpr, no_expr, some_expr, Exprs}
 use Rattle.pdll_syntax.specs.StmtTree.{Stmt, StmtForm, let_stmt, plain_stmt}
 use Rattle.pdll_syntax.specs.declared.stmt.Param.{Param}
+use Rattle.pdll_syntax.specs.declared.file.CallDecl.{CallDecl}
 use Rattle.native_set.specs.declared.native.Kind.{Kind}
 use Rattle.native_set.specs.declared.native.Kind.TheVariants as kind
 use Rattle.rewrite_model.specs.Pattern.{Parts, Expr, result, has_name, has_parts}
 use Rattle.rewrite_model.specs.Doing.{Doing, ◌>>=◌, ◌>>◌, pure, for_each}
-use Rattle.rewrite_model.specs.Names.{Meant}
+use Rattle.rewrite_model.specs.Names.{Meant, named_together}
 use Rattle.rewrite_model.specs.MatchPart.{Scene, Constrains, new_number, new_variable, mention, ask, number_of, as_operand, a_literal_attr, see_name, kind_of_refs, let_value, plain, expression, expressions, operands_at, entries_of, types_at, statement}
+use Rattle.rewrite_model.specs.Expanding.{param_names, within, call_params, body_asks}
 
 -- results of results, by the numbers behind an operation
 abbrev pub members_read : List ℕ → Meant Expr → Doing Scene (Meant Expr)
@@ -70,3 +72,11 @@ module _ (constraint : List ℕ → Constrains) where
     x ← new_variable p.name.at (kind_of_refs constraint p.refs).kind
     see_name p.name.text x
     pure x
+
+  -- the constraints in the refs of the parameters, and then the body
+  abbrev pub body_read : CallDecl → List (Meant Expr) → Doing Scene (Unit {0})
+  body_read c xs = call_params constraint c.params xs >> body_asks constraint c.body
+
+  -- the same, with only the parameters as names
+  abbrev pub body_called : CallDecl → List (Meant Expr) → Doing Scene (Unit {0})
+  body_called c xs = within (named_together (param_names c.params) xs) (body_read c xs)

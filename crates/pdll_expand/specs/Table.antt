@@ -1,25 +1,36 @@
--- What the program knows of the constraints that are declared.
-use Rattle.std.specs.Prelude.{◌≡◌, ℕ, List}
-use Rattle.std.specs.Option.{option_map_or}
-use Rattle.std.specs.Str.{bytes_eq}
-use Rattle.std.specs.HashMap.{get_by}
+-- What the program knows of the constraints that are declared, and which are in sight.
+use Rattle.std.specs.Prelude.{◌≡◌, ℕ, List, [], take, Bool, true, false, Option, Some, None}
+use Rattle.pdll_syntax.specs.declared.file.CallDecl.{CallDecl}
 use Rattle.pdll_syntax.specs.declared.file.Decl.{Decl}
-use Rattle.native_set.specs.declared.native.Kind.TheVariants as kind
-use Rattle.rewrite_model.specs.Doing.{pure}
-use Rattle.rewrite_model.specs.Names.{Written, of_kind}
+use Rattle.rewrite_model.specs.Names.{Written}
 use Rattle.rewrite_model.specs.MatchPart.{Constrains}
-use Rattle.rewrite_model.specs.Expanding.{constraints}
+use Rattle.rewrite_model.specs.Expanding.{constrains, constraints}
+use Rattle.rewrite_model.specs.Own.{silent}
 use Rattle.pdll_expand.specs.declared.constraints.Constraints.{Constraints}
-use Rattle.pdll_expand.specs.View.{written_of}
+use Rattle.pdll_expand.specs.declared.constraints.Found.{Found}
+use Rattle.pdll_expand.specs.declared.sight.Sight.{Sight}
+use Rattle.pdll_expand.specs.Called.{calls_in}
+use Rattle.pdll_expand.specs.Behind.{behind}
 
--- what is written for the first parameter of a constraint
-abbrev pub param_of : Constraints → List ℕ → Written
-param_of c n = option_map_or written_of (get_by (λ k. bytes_eq n k.now) c.params) (of_kind kind.Value)
+abbrev pub calls_of : Constraints → List CallDecl
+calls_of c = calls_in c.calls
 
--- the constraints, whose calls ask for nothing
-abbrev pub quiet : Constraints → List ℕ → Constrains
-quiet c n = record { param = param_of c n; call = λ xs. pure tt }
+-- what is found stands behind those before it
+abbrev pub meaning_of : List CallDecl → Option Found → List ℕ → Constrains
+meaning_of cs None n = behind [] n
+meaning_of cs (Some f) n = constrains (behind (take f.at cs)) f.call.now
+
+abbrev pub told : Bool → (List ℕ → Constrains) → List ℕ → Constrains
+told true constraint = constraint
+told false constraint = silent constraint
+
+-- what names stand for: without bodies, calls ask for nothing
+abbrev pub in_sight : Sight → List ℕ → Constrains
+in_sight s = told s.bodies (behind (take s.count (calls_of s.constraints.now)))
+
+abbrev pub param_in : Sight → List ℕ → Written
+param_in s n = (in_sight s n).param
 
 -- They are the constraints among these declarations, the last one first.
 abbrev pub Knows : Constraints → List Decl → Type 0
-Knows c earlier = (n : List ℕ) → param_of c n ≡ (constraints earlier n).param
+Knows c earlier = (n : List ℕ) → behind (calls_of c) n ≡ constraints earlier n

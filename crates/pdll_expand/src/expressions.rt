@@ -8,14 +8,14 @@ ghost use Rattle.rewrite_model.specs.MatchPart as spec;
 ghost use Rattle.pdll_expand.specs.View.{expr_of, meant_of, named_expr_of, parts_of};
 ghost use Rattle.pdll_expand.specs.Scenes.{Does};
 ghost use Rattle.pdll_expand.specs.Reading.{members_read, operation_read, type_list, parts_read, left_out_read, operand_read, value_read};
-ghost use Rattle.pdll_expand.specs.Table.{quiet};
+ghost use Rattle.pdll_expand.specs.Table.{in_sight};
 
 use crate::calls::call_refs;
-use crate::constraints::Constraints;
 use crate::demand::{Demand, NamedExpr, Parts};
 use crate::expr::Expr as Term;
 use crate::literals::{literal_attr, literal_type};
 use crate::scene::{Meant, Scene};
+use crate::sight::Sight;
 use crate::written::{is_kind, kind_of_refs};
 use mlir_tree::attr::Attr;
 use native_set::native::Kind;
@@ -35,47 +35,58 @@ fn read_members<'t>(scene: &mut Scene<'t>, x: Meant, members: &[u16]) -> Result<
 }
 
 /// Reads a variable without a value, at this place, whose written type is this.
+#[cycle(reading)]
 pub fn read_variable<'t>(
-    constraints: &Constraints<'t>,
+    alloc: Global,
+    constraints: Sight<'_, 't>,
     scene: &mut Scene<'t>,
     at: usize,
     all: &'t [Ref],
     ty: Option<Term>,
 ) -> Result<Meant, AllocError>
-    ensures { Does meant_of (spec.variable (quiet constraints.now) at all.now (option_map expr_of ty)) scene.old result scene.new }
+    ensures { Does meant_of (spec.variable (in_sight constraints.entry) at all.now (option_map expr_of ty)) scene.old result scene.new }
 {
     let written = kind_of_refs(constraints, all);
     let x = scene.new_variable(at, written.kind)?;
     scene.ask_name(x.is, written.name)?;
     scene.ask_type(x.is, ty)?;
-    call_refs(constraints, scene, all, x)?;
+    call_refs(alloc, constraints, scene, all, x)?;
     Ok(x)
 }
 
 /// Reads an expression.
-#[cycle(expressions)]
+#[cycle(reading)]
 pub fn read_expr<'t>(
     alloc: Global,
-    constraints: &Constraints<'t>,
+    constraints: Sight<'_, 't>,
     scene: &mut Scene<'t>,
     x: &'t Expr,
 ) -> Result<Meant, AllocError>
-    ensures { Does meant_of (spec.expression (quiet constraints.now) x.now) scene.old result scene.new }
+    ensures { Does meant_of (spec.expression (in_sight constraints.entry) x.now) scene.old result scene.new }
 {
-    let first = read_form(alloc, constraints, scene, &x.form, x.at)?;
+    if constraints.room == 0 {
+        return Err(AllocError);
+    }
+    let inside = Sight {
+        constraints: constraints.constraints,
+        count: constraints.count,
+        bodies: constraints.bodies,
+        room: constraints.room - 1,
+    };
+    let first = read_form(alloc, inside, scene, &x.form, x.at)?;
     read_members(scene, first, x.members.as_slice())
 }
 
 /// Reads an expression without numbers behind it.
-#[cycle(expressions)]
+#[cycle(reading)]
 fn read_form<'t>(
     alloc: Global,
-    constraints: &Constraints<'t>,
+    constraints: Sight<'_, 't>,
     scene: &mut Scene<'t>,
     form: &'t ExprForm,
     at: usize,
 ) -> Result<Meant, AllocError>
-    ensures { Does meant_of (spec.form_at (quiet constraints.now) (expr_form form.now) at) scene.old result scene.new }
+    ensures { Does meant_of (spec.form_at (in_sight constraints.entry) (expr_form form.now) at) scene.old result scene.new }
 {
     match form {
         ExprForm::Name(name) => Ok(scene.look_up(name.as_slice())),
@@ -106,48 +117,48 @@ fn read_form<'t>(
 }
 
 /// Reads a variable that is declared at its place.
-#[cycle(expressions)]
+#[cycle(reading)]
 fn read_declared<'t>(
     alloc: Global,
-    constraints: &Constraints<'t>,
+    constraints: Sight<'_, 't>,
     scene: &mut Scene<'t>,
     name: &'t [u8],
     all: &'t [Ref],
     at: usize,
 ) -> Result<Meant, AllocError>
-    ensures { Does meant_of (spec.form_at (quiet constraints.now) (declare_expr name.now (refs all.now)) at) scene.old result scene.new }
+    ensures { Does meant_of (spec.form_at (in_sight constraints.entry) (declare_expr name.now (refs all.now)) at) scene.old result scene.new }
 {
     let ty = read_ref_type(alloc, constraints, scene, all)?;
-    let x = read_variable(constraints, scene, at, all, ty)?;
+    let x = read_variable(alloc, constraints, scene, at, all, ty)?;
     scene.see_name(name, x)?;
     Ok(x)
 }
 
 /// Reads an operation expression: its parts come before it.
-#[cycle(expressions)]
+#[cycle(reading)]
 fn read_operation<'t>(
     alloc: Global,
-    constraints: &Constraints<'t>,
+    constraints: Sight<'_, 't>,
     scene: &mut Scene<'t>,
     operation: &'t OpExpr,
     at: usize,
 ) -> Result<Meant, AllocError>
-    ensures { Does meant_of (spec.operation_at (quiet constraints.now) operation.now at) scene.old result scene.new }
+    ensures { Does meant_of (spec.operation_at (in_sight constraints.entry) operation.now at) scene.old result scene.new }
 {
     let parts = read_parts(alloc, constraints, scene, operation, at)?;
     new_operation(scene, operation.name.as_slice(), at, parts)
 }
 
 /// Reads the parts of an operation expression: operands, attributes and types.
-#[cycle(expressions)]
+#[cycle(reading)]
 fn read_parts<'t>(
     alloc: Global,
-    constraints: &Constraints<'t>,
+    constraints: Sight<'_, 't>,
     scene: &mut Scene<'t>,
     operation: &'t OpExpr,
     at: usize,
 ) -> Result<Parts<'t>, AllocError>
-    ensures { Does parts_of (parts_read (quiet constraints.now) operation.now at) scene.old result scene.new }
+    ensures { Does parts_of (parts_read (in_sight constraints.entry) operation.now at) scene.old result scene.new }
 {
     let operands = read_operands(alloc, constraints, scene, &operation.operands, at)?;
     let entries = read_entries(alloc, constraints, scene, operation.entries.as_slice())?;
@@ -175,15 +186,15 @@ fn new_operation<'t>(
 }
 
 /// Reads operands. Left-out ones are `_: ValueRange`.
-#[cycle(expressions)]
+#[cycle(reading)]
 fn read_operands<'t>(
     alloc: Global,
-    constraints: &Constraints<'t>,
+    constraints: Sight<'_, 't>,
     scene: &mut Scene<'t>,
     all: &'t Option<Items<Expr>>,
     at: usize,
 ) -> Result<Items<Term>, AllocError>
-    ensures { Does (map expr_of) (spec.operands_at (quiet constraints.now) (maybe_exprs all.now) at) scene.old result scene.new }
+    ensures { Does (map expr_of) (spec.operands_at (in_sight constraints.entry) (maybe_exprs all.now) at) scene.old result scene.new }
 {
     match all {
         None => left_out(alloc, scene, Kind::Values, at),
@@ -206,14 +217,14 @@ fn left_out(
     Ok(found)
 }
 
-#[cycle(expressions)]
+#[cycle(reading)]
 fn read_operand_list<'t>(
     alloc: Global,
-    constraints: &Constraints<'t>,
+    constraints: Sight<'_, 't>,
     scene: &mut Scene<'t>,
     all: &'t [Expr],
 ) -> Result<Items<Term>, AllocError>
-    ensures { Does (map expr_of) (spec.operand_list (quiet constraints.now) (exprs all.now)) scene.old result scene.new }
+    ensures { Does (map expr_of) (spec.operand_list (in_sight constraints.entry) (exprs all.now)) scene.old result scene.new }
 {
     let mut found = Items::new(alloc);
     for x in all {
@@ -223,14 +234,14 @@ fn read_operand_list<'t>(
 }
 
 /// Reads an operand.
-#[cycle(expressions)]
+#[cycle(reading)]
 fn read_operand<'t>(
     alloc: Global,
-    constraints: &Constraints<'t>,
+    constraints: Sight<'_, 't>,
     scene: &mut Scene<'t>,
     x: &'t Expr,
 ) -> Result<Term, AllocError>
-    ensures { Does expr_of (operand_read (quiet constraints.now) x.now) scene.old result scene.new }
+    ensures { Does expr_of (operand_read (in_sight constraints.entry) x.now) scene.old result scene.new }
 {
     let value = read_expr(alloc, constraints, scene, x)?;
     let operand = scene.as_operand(value)?;
@@ -238,15 +249,15 @@ fn read_operand<'t>(
 }
 
 /// Reads types. Left-out ones are `_: TypeRange`.
-#[cycle(expressions)]
+#[cycle(reading)]
 fn read_types<'t>(
     alloc: Global,
-    constraints: &Constraints<'t>,
+    constraints: Sight<'_, 't>,
     scene: &mut Scene<'t>,
     all: &'t Option<Items<Expr>>,
     at: usize,
 ) -> Result<Items<Term>, AllocError>
-    ensures { Does (map expr_of) (spec.types_at (quiet constraints.now) (maybe_exprs all.now) at) scene.old result scene.new }
+    ensures { Does (map expr_of) (spec.types_at (in_sight constraints.entry) (maybe_exprs all.now) at) scene.old result scene.new }
 {
     match all {
         None => left_out(alloc, scene, Kind::Tys, at),
@@ -254,14 +265,14 @@ fn read_types<'t>(
     }
 }
 
-#[cycle(expressions)]
+#[cycle(reading)]
 fn read_type_list<'t>(
     alloc: Global,
-    constraints: &Constraints<'t>,
+    constraints: Sight<'_, 't>,
     scene: &mut Scene<'t>,
     all: &'t [Expr],
 ) -> Result<Items<Term>, AllocError>
-    ensures { Does (map expr_of) (type_list (quiet constraints.now) (exprs all.now)) scene.old result scene.new }
+    ensures { Does (map expr_of) (type_list (in_sight constraints.entry) (exprs all.now)) scene.old result scene.new }
 {
     let mut found = Items::new(alloc);
     for x in all {
@@ -271,14 +282,14 @@ fn read_type_list<'t>(
     Ok(found)
 }
 
-#[cycle(expressions)]
+#[cycle(reading)]
 fn read_entries<'t>(
     alloc: Global,
-    constraints: &Constraints<'t>,
+    constraints: Sight<'_, 't>,
     scene: &mut Scene<'t>,
     all: &'t [Entry],
 ) -> Result<Items<NamedExpr<'t>>, AllocError>
-    ensures { Does (map named_expr_of) (spec.entries_of (quiet constraints.now) (entries all.now)) scene.old result scene.new }
+    ensures { Does (map named_expr_of) (spec.entries_of (in_sight constraints.entry) (entries all.now)) scene.old result scene.new }
 {
     let mut found = Items::new(alloc);
     for entry in all {
@@ -287,14 +298,14 @@ fn read_entries<'t>(
     Ok(found)
 }
 
-#[cycle(expressions)]
+#[cycle(reading)]
 fn read_entry<'t>(
     alloc: Global,
-    constraints: &Constraints<'t>,
+    constraints: Sight<'_, 't>,
     scene: &mut Scene<'t>,
     entry: &'t Entry,
 ) -> Result<NamedExpr<'t>, AllocError>
-    ensures { Does named_expr_of (spec.entry_of (quiet constraints.now) entry.now) scene.old result scene.new }
+    ensures { Does named_expr_of (spec.entry_of (in_sight constraints.entry) entry.now) scene.old result scene.new }
 {
     let value = read_value(alloc, constraints, scene, &entry.value, entry.at)?;
     Ok(NamedExpr {
@@ -304,15 +315,15 @@ fn read_entry<'t>(
 }
 
 /// Reads the value of an entry. One without a value is unit.
-#[cycle(expressions)]
+#[cycle(reading)]
 fn read_value<'t>(
     alloc: Global,
-    constraints: &Constraints<'t>,
+    constraints: Sight<'_, 't>,
     scene: &mut Scene<'t>,
     value: &'t Option<Expr>,
     at: usize,
 ) -> Result<Meant, AllocError>
-    ensures { Does meant_of (value_read (quiet constraints.now) (maybe_expr value.now) at) scene.old result scene.new }
+    ensures { Does meant_of (value_read (in_sight constraints.entry) (maybe_expr value.now) at) scene.old result scene.new }
 {
     match value {
         None => scene.new_attr(at, Attr::unit()),
@@ -321,14 +332,14 @@ fn read_value<'t>(
 }
 
 /// Reads an expression, where there is one.
-#[cycle(expressions)]
+#[cycle(reading)]
 fn read_given<'t>(
     alloc: Global,
-    constraints: &Constraints<'t>,
+    constraints: Sight<'_, 't>,
     scene: &mut Scene<'t>,
     x: &'t Option<Expr>,
 ) -> Result<Option<Term>, AllocError>
-    ensures { Does (option_map expr_of) (spec.given (quiet constraints.now) (maybe_expr x.now)) scene.old result scene.new }
+    ensures { Does (option_map expr_of) (spec.given (in_sight constraints.entry) (maybe_expr x.now)) scene.old result scene.new }
 {
     match x {
         None => Ok(None),
@@ -340,14 +351,14 @@ fn read_given<'t>(
 }
 
 /// Reads the type that is written in the first ref that is a kind.
-#[cycle(expressions)]
+#[cycle(reading)]
 pub fn read_ref_type<'t>(
     alloc: Global,
-    constraints: &Constraints<'t>,
+    constraints: Sight<'_, 't>,
     scene: &mut Scene<'t>,
     all: &'t [Ref],
 ) -> Result<Option<Term>, AllocError>
-    ensures { Does (option_map expr_of) (spec.type_of_refs (quiet constraints.now) (refs all.now)) scene.old result scene.new }
+    ensures { Does (option_map expr_of) (spec.type_of_refs (in_sight constraints.entry) (refs all.now)) scene.old result scene.new }
 {
     for one in all {
         if is_kind(one) {
@@ -358,14 +369,14 @@ pub fn read_ref_type<'t>(
 }
 
 /// Reads the type that is written in a ref.
-#[cycle(expressions)]
+#[cycle(reading)]
 fn read_type_in<'t>(
     alloc: Global,
-    constraints: &Constraints<'t>,
+    constraints: Sight<'_, 't>,
     scene: &mut Scene<'t>,
     form: &'t RefForm,
 ) -> Result<Option<Term>, AllocError>
-    ensures { Does (option_map expr_of) (spec.type_of_form (quiet constraints.now) (ref_form form.now) (pure None)) scene.old result scene.new }
+    ensures { Does (option_map expr_of) (spec.type_of_form (in_sight constraints.entry) (ref_form form.now) (pure None)) scene.old result scene.new }
 {
     match form {
         RefForm::Attr(ty) => read_given(alloc, constraints, scene, ty),

@@ -3,13 +3,16 @@
 
 mod calls;
 pub mod constraints;
+pub mod declared;
 pub mod demand;
 pub mod expr;
 mod expressions;
-mod literals;
+pub mod literals;
 pub mod marks;
 pub mod own;
+pub mod pattern;
 pub mod scene;
+mod sight;
 mod statements;
 #[cfg(test)]
 mod tests;

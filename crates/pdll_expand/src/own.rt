@@ -5,17 +5,18 @@ ghost use Rattle.std.specs.List.{range_with_len};
 ghost use Rattle.pdll_syntax.specs.declared.file.Decl.{Decl as Declaration};
 ghost use Rattle.pdll_syntax.specs.declared.file.Decl.TheVariants as decl;
 ghost use Rattle.rewrite_model.specs.MatchPart.{empty};
-ghost use Rattle.rewrite_model.specs.Expanding.{param_variables, body_asks, constraint_asks, body_statements};
+ghost use Rattle.rewrite_model.specs.Expanding.{param_variables, constraint_asks, body_statements};
 ghost use Rattle.rewrite_model.specs.Own as spec;
 ghost use Rattle.pdll_expand.specs.View.{meant_of};
 ghost use Rattle.pdll_expand.specs.Scenes.{Does, IsOwn};
 ghost use Rattle.pdll_expand.specs.Reading.{param_read};
-ghost use Rattle.pdll_expand.specs.Table.{quiet, Knows};
+ghost use Rattle.pdll_expand.specs.Table.{in_sight, Knows};
 
-use crate::calls::call_params;
+use crate::calls::run_body;
 use crate::constraints::Constraints;
 use crate::scene::{Meant, Own, Scene};
-use crate::statements::{read_match, read_plain, read_stmt, read_stmts};
+use crate::sight::Sight;
+use crate::statements::read_match;
 use crate::written::kind_of_refs;
 use pdll_syntax::file::{CallDecl, Decl, PatternDecl};
 use pdll_syntax::stmt::{Body, Param, Stmt};
@@ -25,11 +26,11 @@ use std::slice::from_ref;
 
 /// Reads a parameter as a variable.
 fn read_param<'t>(
-    constraints: &Constraints<'t>,
+    constraints: Sight<'_, 't>,
     scene: &mut Scene<'t>,
     param: &'t Param,
 ) -> Result<Meant, AllocError>
-    ensures { Does meant_of (param_read (quiet constraints.now) param.now) scene.old result scene.new }
+    ensures { Does meant_of (param_read (in_sight constraints.entry) param.now) scene.old result scene.new }
 {
     let written = kind_of_refs(constraints, param.refs.as_slice());
     let x = scene.new_variable(param.name.at, written.kind)?;
@@ -40,11 +41,11 @@ fn read_param<'t>(
 /// Reads parameters as variables.
 fn read_params<'t>(
     alloc: Global,
-    constraints: &Constraints<'t>,
+    constraints: Sight<'_, 't>,
     scene: &mut Scene<'t>,
     params: &'t [Param],
 ) -> Result<Items<Meant>, AllocError>
-    ensures { Does (map meant_of) (param_variables (quiet constraints.now) params.now) scene.old result scene.new }
+    ensures { Does (map meant_of) (param_variables (in_sight constraints.entry) params.now) scene.old result scene.new }
 {
     let mut found = Items::new(alloc);
     for param in params {
@@ -53,36 +54,17 @@ fn read_params<'t>(
     Ok(found)
 }
 
-/// Reads the body of a constraint.
-fn read_body<'t>(
-    alloc: Global,
-    constraints: &Constraints<'t>,
-    scene: &mut Scene<'t>,
-    body: &'t Body,
-) -> Result<(), AllocError>
-    ensures { Does (λ u. u) (body_asks (quiet constraints.now) body.now) scene.old result scene.new }
-{
-    match body {
-        Body::Absent => Ok(()),
-        Body::Braces(all, _) => read_stmts(alloc, constraints, scene, all.as_slice()),
-        Body::One(one) => read_stmt(alloc, constraints, scene, one),
-        Body::Value(x) => read_plain(alloc, constraints, scene, x),
-    }
-}
-
 /// Reads a constraint.
 fn read_constraint<'t>(
     alloc: Global,
-    constraints: &Constraints<'t>,
+    constraints: Sight<'_, 't>,
     scene: &mut Scene<'t>,
     call: &'t CallDecl,
 ) -> Result<(), AllocError>
-    ensures { Does (λ u. u) (constraint_asks (quiet constraints.now) call.now) scene.old result scene.new }
+    ensures { Does (λ u. u) (constraint_asks (in_sight constraints.entry) call.now) scene.old result scene.new }
 {
-    let params = call.params.as_slice();
-    let arguments = read_params(alloc, constraints, scene, params)?;
-    call_params(constraints, scene, params, arguments.as_slice())?;
-    read_body(alloc, constraints, scene, &call.body)
+    let arguments = read_params(alloc, constraints, scene, call.params.as_slice())?;
+    run_body(alloc, constraints, scene, call, arguments.as_slice())
 }
 
 /// The numbers below this one.
@@ -97,7 +79,7 @@ fn numbers(alloc: Global, count: usize) -> Result<Items<usize>, AllocError>
 }
 
 /// The statements of a pattern.
-fn body_stmts(body: &Body) -> &[Stmt]
+pub fn body_stmts(body: &Body) -> &[Stmt]
     ensures { result.now ≡ body_statements body.now }
 {
     match body {
@@ -115,7 +97,12 @@ fn own_pattern<'t>(
     ensures { (earlier : List Declaration) → Knows constraints.now earlier → IfOk result (λ o. IsOwn o (spec.own earlier (decl.Pattern pattern.now))) }
 {
     let mut scene = Scene::new(alloc);
-    let root = read_match(alloc, constraints, &mut scene, body_stmts(&pattern.body))?;
+    let root = read_match(
+        alloc,
+        Sight::quiet(constraints),
+        &mut scene,
+        body_stmts(&pattern.body),
+    )?;
     let mut given = Items::new(alloc);
     given.push(root)?;
     Ok(Own { scene, given })
@@ -129,7 +116,7 @@ fn own_constraint<'t>(
     ensures { (earlier : List Declaration) → Knows constraints.now earlier → IfOk result (λ o. IsOwn o (spec.own earlier (decl.Constraint call.now))) }
 {
     let mut scene = Scene::new(alloc);
-    read_constraint(alloc, constraints, &mut scene, call)?;
+    read_constraint(alloc, Sight::quiet(constraints), &mut scene, call)?;
     let given = numbers(alloc, call.params.len())?;
     Ok(Own { scene, given })
 }

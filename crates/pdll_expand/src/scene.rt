@@ -3,7 +3,7 @@
 ghost use Rattle.std.specs.Prelude.{◌≡◌, option_map, option_copied};
 ghost use Rattle.rewrite_model.specs.MatchPart as spec;
 ghost use Rattle.pdll_expand.specs.View.{expr_of, meant_of, demand_of};
-ghost use Rattle.pdll_expand.specs.Scenes.{IsScene, Does};
+ghost use Rattle.pdll_expand.specs.Scenes.{IsScene, Does, known};
 
 use crate::demand::Demand;
 use crate::expr::Expr;
@@ -13,6 +13,7 @@ use mlir_tree::ty::Ty;
 use native_set::native::Kind;
 use sqlite_items::Items;
 use std::alloc::{AllocError, Global};
+use std::mem;
 
 /// What a name or an expression stands for.
 #[derive(Clone, Copy)]
@@ -82,8 +83,33 @@ impl<'t> Scene<'t> {
         Ok(())
     }
 
+    /// Brings these names into sight, and no others. Gives those that were in sight.
+    pub(crate) fn exchange_names(
+        &mut self,
+        names: IndexMap<&'t [u8], Meant>,
+    ) -> IndexMap<&'t [u8], Meant>
+        ensures kinds { self.new.kinds ≡ self.old.kinds }
+        ensures places { self.new.places ≡ self.old.places }
+        ensures demands { self.new.demands ≡ self.old.demands }
+        ensures names { self.new.names ≡ names.entry }
+        ensures outer { result ≡ self.old.names }
+    {
+        mem::replace(&mut self.names, names)
+    }
+
+    /// Brings these names into sight again, and no others.
+    pub(crate) fn put_back(&mut self, names: IndexMap<&'t [u8], Meant>)
+        ensures kinds { self.new.kinds ≡ self.old.kinds }
+        ensures places { self.new.places ≡ self.old.places }
+        ensures demands { self.new.demands ≡ self.old.demands }
+        ensures names { self.new.names ≡ names.entry }
+    {
+        let mut names = names;
+        mem::swap(&mut self.names, &mut names);
+    }
+
     /// What a name stands for. A name that isn't in sight counts as the number 0.
-    pub(crate) fn look_up(&self, name: &[u8]) -> Meant
+    pub fn look_up(&self, name: &[u8]) -> Meant
         ensures { (t : spec.Scene) → IsScene self.now t → meant_of result ≡ (spec.look_up name.now t).0 }
     {
         match self.names.get(name) {
@@ -92,6 +118,16 @@ impl<'t> Scene<'t> {
                 kind: Kind::Value,
                 is: Expr::The(0),
             },
+        }
+    }
+
+    /// What a name stands for, if it is in sight.
+    pub fn find_name(&self, name: &[u8]) -> Option<Meant>
+        ensures { option_map meant_of result ≡ known self.now name.now }
+    {
+        match self.names.get(name) {
+            None => None,
+            Some(x) => Some(*x),
         }
     }
 

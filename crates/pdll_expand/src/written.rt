@@ -6,9 +6,9 @@ ghost use Rattle.pdll_syntax.specs.ExprView.{ref_form};
 ghost use Rattle.rewrite_model.specs.Names as spec;
 ghost use Rattle.rewrite_model.specs.MatchPart.{kind_of_refs};
 ghost use Rattle.pdll_expand.specs.View.{written_of};
-ghost use Rattle.pdll_expand.specs.Table.{param_of, quiet};
+ghost use Rattle.pdll_expand.specs.Table.{param_in, in_sight};
 
-use crate::constraints::Constraints;
+use crate::sight::Sight;
 use native_set::native::Kind;
 use pdll_syntax::expr::{Ref, RefForm};
 use pdll_syntax::name::Text;
@@ -100,8 +100,8 @@ fn first_kind(all: &[Ref]) -> Option<Written<'_>>
 }
 
 /// The first constraint among refs.
-fn named_kind<'t>(constraints: &Constraints<'t>, all: &[Ref]) -> Option<Written<'t>>
-    ensures { option_map written_of result ≡ spec.named_kind (param_of constraints.now) all.now }
+fn named_kind<'t>(constraints: Sight<'_, 't>, all: &[Ref]) -> Option<Written<'t>>
+    ensures { option_map written_of result ≡ spec.named_kind (param_in constraints.entry) all.now }
 {
     for one in all {
         if let Some(name) = ref_name(one) {
@@ -112,8 +112,8 @@ fn named_kind<'t>(constraints: &Constraints<'t>, all: &[Ref]) -> Option<Written<
 }
 
 /// The kind that refs write: the first, else that of the first constraint's parameter.
-pub(crate) fn kind_of_refs<'t>(constraints: &Constraints<'t>, all: &'t [Ref]) -> Written<'t>
-    ensures { written_of result ≡ kind_of_refs (quiet constraints.now) all.now }
+pub(crate) fn kind_of_refs<'t>(constraints: Sight<'_, 't>, all: &'t [Ref]) -> Written<'t>
+    ensures { written_of result ≡ kind_of_refs (in_sight constraints.entry) all.now }
 {
     if let Some(kind) = first_kind(all) {
         return kind;

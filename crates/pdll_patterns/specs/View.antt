@@ -1,7 +1,10 @@
 -- What the program's actions stand for.
 use Rattle.std.specs.Prelude.{ℕ, List, map}
-use Rattle.rewrite_model.specs.Pattern.{Parts, Part, matched, made, Making, attr_literal, type_literal, new_operation, result_of, only_result_of, results_of, result_types_of, native, Action, makes, replaces, erases}
-use Rattle.pdll_expand.specs.View.{expr_of}
+use Rattle.rewrite_model.specs.Pattern.{Parts, Part, matched, made, Making, attr_literal, type_literal, new_operation, result_of, only_result_of, results_of, result_types_of, native, Action, makes, replaces, erases, Pattern}
+use Rattle.rewrite_model.specs.Names.{Meant}
+use Rattle.pdll_expand.specs.View.{expr_of, demand_of}
+use Rattle.pdll_patterns.specs.declared.pattern.Pattern.{Pattern as PatternNode}
+use Rattle.pdll_patterns.specs.declared.names.MeantPart.{MeantPart}
 use Rattle.pdll_patterns.specs.declared.action.Part.{Part as PartNode}
 use Rattle.pdll_patterns.specs.declared.action.Part.TheVariants as p
 use Rattle.pdll_patterns.specs.declared.action.NamedPart.{NamedPart}
@@ -35,3 +38,17 @@ abbrev pub action_of : ActionNode → Action
 action_of (a.Makes x) = makes (making_of x)
 action_of (a.Replaces x xs) = replaces (part_of x) (map part_of xs)
 action_of (a.Erases x) = erases (part_of x)
+
+abbrev pub meant_part_of : MeantPart → Meant Part
+meant_part_of x = record { kind = x.kind; is = part_of x.is }
+
+abbrev pub pattern_of : PatternNode → Pattern
+pattern_of p = record {
+  name = p.name.now;
+  benefit = p.benefit;
+  kinds = p.kinds;
+  places = p.places;
+  demands = map demand_of p.demands;
+  root = p.root;
+  actions = map action_of p.actions;
+}

@@ -2,14 +2,14 @@
 use Rattle.std.proofs.Common.{◌≡◌, ◌⊎◌, ℕ, ◌≤◌, List, [], Option, None, refl, sym, subst, ◌∙◌, inl, inr, arith}
 use Rattle.std.specs.Prelude.{IfSome}
 use Rattle.rw_outside.specs.Outside.{Rose}
-use Rattle.pdllrw.specs.Patterns.{Erasing}
+use Rattle.pdll_syntax.specs.declared.file.PatFile.{PatFile}
 use Rattle.pdllrw.specs.Accepted.{AcceptsPatterns}
 use Rattle.pdllrw.specs.declared.position.Position.{Position}
-use Rattle.pdllrw.specs.declared.driver.Ending.{Ending}
-use Rattle.pdllrw.specs.declared.driver.Ending.TheVariants as endings
+use Rattle.rewrite_model.specs.declared.run.Ending.{Ending}
+use Rattle.rewrite_model.specs.declared.run.Ending.TheVariants as endings
 use Rattle.pdllrw.specs.declared.status.Status.{Status}
 use Rattle.pdllrw.specs.declared.status.Status.TheVariants as statuses
-use Rattle.pdllrw.specs.Words.{command_of}
+use Rattle.command_line.specs.Command.{command_of}
 use Rattle.pdllrw.specs.Outcome
 use Rattle.pdllrw.specs.Outcome.{Outside, Command, Rewrites, ReadsBadly, HasBadPatterns, HasBadModule, IsCause, IsAnswer, IsWritten, IsCutShort, IsOutcome, line_of, kind_of_ending}
 use Rattle.pdllrw.specs.Stops.{StopsPatterns, StopsModule}
@@ -80,17 +80,17 @@ module _ (old new : Outside) (words : List (List ℕ)) where
   patterns_stop command p (statuses.ModuleFault f) stops = absurd stops
   patterns_stop command p statuses.WriteFault stops = absurd stops
 
-  pub module_stops : (command : Command words) (patterns : List Erasing) → IfSome (old.files command.patterns) (AcceptsPatterns patterns)
+  pub module_stops : (command : Command words) (file : PatFile) → IfSome (old.files command.patterns) (AcceptsPatterns file)
       → (p : Position) (s : Status) → StopsModule (old.files command.module_file) (old.faults command.module_file) (new.faults command.module_file) p s → IsCause old new words p s ⊎ (s ≡ statuses.NoMemory)
-  module_stops command patterns are p (statuses.ModuleFault f) stops = inl (record { command = command; patterns = patterns; are_patterns = are; refused = stops })
-  module_stops command patterns are p statuses.ReadFault stops = inl (record { command = command; rose = inr (patterns, are, stops) })
-  module_stops command patterns are p statuses.NoMemory stops = inr refl
-  module_stops command patterns are p statuses.Done stops = absurd stops
-  module_stops command patterns are p (statuses.Bound k) stops = absurd stops
-  module_stops command patterns are p (statuses.Broken b) stops = absurd stops
-  module_stops command patterns are p statuses.Usage stops = absurd stops
-  module_stops command patterns are p (statuses.PatternFault f) stops = absurd stops
-  module_stops command patterns are p statuses.WriteFault stops = absurd stops
+  module_stops command file are p (statuses.ModuleFault f) stops = inl (record { command = command; file = file; are_patterns = are; refused = stops })
+  module_stops command file are p statuses.ReadFault stops = inl (record { command = command; rose = inr (file, are, stops) })
+  module_stops command file are p statuses.NoMemory stops = inr refl
+  module_stops command file are p statuses.Done stops = absurd stops
+  module_stops command file are p (statuses.Bound k) stops = absurd stops
+  module_stops command file are p (statuses.Broken b) stops = absurd stops
+  module_stops command file are p statuses.Usage stops = absurd stops
+  module_stops command file are p (statuses.PatternFault f) stops = absurd stops
+  module_stops command file are p statuses.WriteFault stops = absurd stops
 
   pub stopped : (p : Position) (s result : Status) → IsCause old new words p s ⊎ (s ≡ statuses.NoMemory) → new.out.bytes ≡ old.out.bytes
       → Tells old.log new.log (line_of p s) s result → (s ≡ statuses.NoMemory → (result ≡ statuses.NoMemory) × (new.log.bytes ≡ old.log.bytes)) → IsOutcome old new words result
@@ -101,12 +101,12 @@ module _ (old new : Outside) (words : List (List ℕ)) where
 
   pub rewritten : (e : Ending) (out log : List ℕ) → Rewrites old.files words e out log → IsAnswer old new words (kind_of_ending e) out log
   rewritten endings.Converged out log r = r
-  rewritten (endings.Bound h) out log r = (h, r)
+  rewritten (endings.Bound k h) out log r = (h, r)
   rewritten (endings.Broken b) out log r = r
 
   shown_outcome : (e : Ending) → IsWritten old new words (kind_of_ending e) → IsOutcome old new words (kind_of_ending e)
   shown_outcome endings.Converged w = w
-  shown_outcome (endings.Bound h) w = w
+  shown_outcome (endings.Bound k h) w = w
   shown_outcome (endings.Broken b) w = w
 
   pub shown : (e : Ending) (out log : List ℕ) (result : Status) → Rewrites old.files words e out log

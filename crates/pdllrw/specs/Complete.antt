@@ -2,7 +2,7 @@
 use Rattle.std.specs.Prelude.{◌≡◌, ℕ, List, Some}
 use Rattle.rw_outside.specs.Outside.{Rose}
 use Rattle.mlir_tree.specs.declared.rows.Rows.{Rows}
-use Rattle.pdllrw.specs.Patterns.{Erasing}
+use Rattle.pdll_syntax.specs.declared.file.PatFile.{PatFile}
 use Rattle.pdllrw.specs.Accepted.{AcceptsPatterns, AcceptsModule}
 use Rattle.pdllrw.specs.declared.status.Status.{Status}
 use Rattle.pdllrw.specs.declared.status.Status.TheVariants as statuses
@@ -13,7 +13,7 @@ pub record GoesWell (old new : Outside) (words : List (List ℕ)) : Type 0 where
   pub command : Command words
   pub pattern_bytes : List ℕ
   pub patterns_told : old.files command.patterns ≡ Some pattern_bytes
-  pub patterns : List Erasing
+  pub patterns : PatFile
   pub are_patterns : AcceptsPatterns patterns pattern_bytes
   pub module_bytes : List ℕ
   pub module_told : old.files command.module_file ≡ Some module_bytes

@@ -1,12 +1,5 @@
-pub mod Patterns
-pub mod Builds
 pub mod Positions
-pub mod Run
 pub mod Laws
-pub mod View
-pub mod Steps
-pub mod Texts
-pub mod Words
 pub mod Accepted
 pub mod Outcome
 pub mod Stops

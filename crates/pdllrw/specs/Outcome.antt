@@ -8,7 +8,6 @@ use Rattle.pdll_syntax.specs.Faults.{code_text}
 use Rattle.pdll_parser.specs.FileGrammar.{IsPatternFile}
 use Rattle.pdll_parser.specs.Spelling.{is_spelling_fault}
 use Rattle.pdll_types.specs.Accepted.{IsAccepted, IsFirstFault}
-use Rattle.pdllrw.specs.Patterns.{Erasing, built}
 use Rattle.pdllrw.specs.Positions.{position_of}
 use Rattle.pdllrw.specs.declared.position.Position.{Position}
 use Rattle.pdll_syntax.specs.declared.fault.PatFault.{PatFault}
@@ -23,16 +22,16 @@ use Rattle.mlir_parse.specs.declared.fault.ModKind.TheVariants as mod_kinds
 use Rattle.mlir_tree.specs.declared.rows.Rows.{Rows}
 use Rattle.mlir_resolve.specs.Resolving.{resolved}
 use Rattle.mlir_print.specs.ModuleText.{module_text}
-use Rattle.pdllrw.specs.Run.{run}
-use Rattle.pdllrw.specs.declared.driver.Hit.{Hit}
-use Rattle.pdllrw.specs.declared.driver.Ending.{Ending}
-use Rattle.pdllrw.specs.declared.driver.Ending.TheVariants as endings
+use Rattle.rewrite_model.specs.declared.run.Hit.{Hit}
+use Rattle.rewrite_model.specs.declared.run.Ending.{Ending}
+use Rattle.rewrite_model.specs.declared.run.Ending.TheVariants as endings
+use Rattle.rewrite_model.specs.Expanding.{patterns}
+use Rattle.rewrite_model.specs.Running.{Course, Runs}
+use Rattle.rewrite_model.specs.LogText.{log_text}
+use Rattle.command_line.specs.Command.{command_of}
 use Rattle.pdllrw.specs.declared.status.Status.{Status}
 use Rattle.pdllrw.specs.declared.status.Status.TheVariants as statuses
-use Rattle.pdllrw.specs.declared.status.BoundKind.TheVariants as bounds
 use Rattle.pdllrw.specs.Accepted.{AcceptsPatterns, AcceptsModule}
-use Rattle.pdllrw.specs.Texts.{log_text}
-use Rattle.pdllrw.specs.Words.{command_of}
 
 -- what is outside at one moment: the files and their counts of faults, and the two sinks
 pub record Outside : Type 0 where
@@ -59,16 +58,6 @@ pub record IsNotAccepted (p : Position) (f : PatFault) (bytes : List ℕ) : Type
   pub fault : IsFirstFault file f
   pub place : p ≡ position_of bytes f.at
 
--- The file is accepted, and the first pattern that isn't built is there.
-pub record IsNotBuilt (p : Position) (f : PatFault) (bytes : List ℕ) : Type 0 where
-  pub is_kind : f.kind ≡ pat_kinds.NotBuilt
-  pub short : length bytes ≤ 67108864
-  pub file : PatFile
-  pub spelled : IsPatternFile bytes file
-  pub accepted : IsAccepted file
-  pub not_built : built file ≡ Err f.at
-  pub place : p ≡ position_of bytes f.at
-
 -- The file has too many bytes.
 pub record IsLongFile (f : PatFault) (bytes : List ℕ) : Type 0 where
   pub is_kind : f.kind ≡ pat_kinds.TooLong
@@ -77,7 +66,7 @@ pub record IsLongFile (f : PatFault) (bytes : List ℕ) : Type 0 where
 
 -- the bytes are refused with this fault, whose place is on this line and in this column
 abbrev pub RefusesPatterns : Position → PatFault → List ℕ → Type 0
-RefusesPatterns p f bytes = IsLongFile f bytes ⊎ (IsNotSpelled p f.kind f.at bytes ⊎ (IsNotAccepted p f bytes ⊎ IsNotBuilt p f bytes))
+RefusesPatterns p f bytes = IsLongFile f bytes ⊎ (IsNotSpelled p f.kind f.at bytes ⊎ IsNotAccepted p f bytes)
 
 -- The same of a module file.
 pub record IsNoModule (p : Position) (kind : ModKind) (at : ℕ) (bytes : List ℕ) : Type 0 where
@@ -130,28 +119,31 @@ line_of p status = plain_line status
 
 -- ---- answers
 
--- the files of the command
+-- the bound and the files of the command
 pub record Command (words : List (List ℕ)) : Type 0 where
+  pub bound : ℕ
   pub patterns : List ℕ
   pub module_file : List ℕ
-  pub is_command : command_of words ≡ Some (patterns, module_file)
+  pub is_command : command_of words ≡ Some (record { bound = bound; patterns = patterns; module_file = module_file })
 
--- the run of the patterns on the module, where the files tell them
+-- The run of the patterns on the module, where the files tell them: the module at its end, and its log.
 pub record Rewrites (files : List ℕ → Option (List ℕ)) (words : List (List ℕ)) (ending : Ending) (out log : List ℕ) : Type 0 where
   pub command : Command words
-  pub patterns : List Erasing
-  pub are_patterns : IfSome (files command.patterns) (AcceptsPatterns patterns)
+  pub file : PatFile
+  pub are_patterns : IfSome (files command.patterns) (AcceptsPatterns file)
   pub rows : Rows
   pub is_module : IfSome (files command.module_file) (AcceptsModule rows)
-  pub ends : (run 10000 patterns rows).ending ≡ ending
-  pub out_is : out ≡ module_text (run 10000 patterns rows).left.rows
-  pub log_is : log ≡ log_text patterns (run 10000 patterns rows)
+  pub course : Course
+  pub runs : Runs (patterns file) command.bound rows course
+  pub ends : course.ending ≡ ending
+  pub out_is : out ≡ module_text course.rows.rows
+  pub log_is : log ≡ log_text course.taken course.ending
 
 -- a count of a file of the command rose, and each file before it was accepted
 pub record ReadsBadly (old new : Outside) (words : List (List ℕ)) : Type 0 where
   pub command : Command words
   pub rose : Rose (old.faults command.patterns) (new.faults command.patterns)
-      ⊎ ((patterns : List Erasing) × IfSome (old.files command.patterns) (AcceptsPatterns patterns) × Rose (old.faults command.module_file) (new.faults command.module_file))
+      ⊎ ((file : PatFile) × IfSome (old.files command.patterns) (AcceptsPatterns file) × Rose (old.faults command.module_file) (new.faults command.module_file))
 
 pub record HasBadPatterns (old : Outside) (words : List (List ℕ)) (p : Position) (f : PatFault) : Type 0 where
   pub command : Command words
@@ -159,8 +151,8 @@ pub record HasBadPatterns (old : Outside) (words : List (List ℕ)) (p : Positio
 
 pub record HasBadModule (old : Outside) (words : List (List ℕ)) (p : Position) (f : ModFault) : Type 0 where
   pub command : Command words
-  pub patterns : List Erasing
-  pub are_patterns : IfSome (old.files command.patterns) (AcceptsPatterns patterns)
+  pub file : PatFile
+  pub are_patterns : IfSome (old.files command.patterns) (AcceptsPatterns file)
   pub refused : IfSome (old.files command.module_file) (RefusesModule p f)
 
 -- why a status that writes a line comes, and the line and the column that it names
@@ -178,7 +170,7 @@ IsCause old new words p statuses.NoMemory = ⊥
 -- a status, and what is written with it
 abbrev pub IsAnswer : Outside → Outside → List (List ℕ) → Status → List ℕ → List ℕ → Type 0
 IsAnswer old new words statuses.Done out log = Rewrites old.files words endings.Converged out log
-IsAnswer old new words (statuses.Bound bounds.Rewrites) out log = (h : Hit) × Rewrites old.files words (endings.Bound h) out log
+IsAnswer old new words (statuses.Bound k) out log = (h : Hit) × Rewrites old.files words (endings.Bound k h) out log
 IsAnswer old new words (statuses.Broken b) out log = Rewrites old.files words (endings.Broken b) out log
 IsAnswer old new words status out log = (p : Position) × IsCause old new words p status × (out ≡ []) × (log ≡ line_of p status)
 
@@ -207,5 +199,5 @@ IsOutcome old new words status = IsWritten old new words status
 
 abbrev pub kind_of_ending : Ending → Status
 kind_of_ending endings.Converged = statuses.Done
-kind_of_ending (endings.Bound h) = statuses.Bound bounds.Rewrites
+kind_of_ending (endings.Bound k h) = statuses.Bound k
 kind_of_ending (endings.Broken b) = statuses.Broken b

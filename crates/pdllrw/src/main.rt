@@ -1,20 +1,18 @@
 //! Rewrites a module by patterns.
 #![tactic(auto)]
 
-mod driver;
 mod laws;
-mod patterns;
+mod pieces;
 mod position;
 mod reading;
 mod run;
 mod status;
-mod texts;
-mod words;
 
-pub use laws::{completes, converged, stays_well_formed};
+pub use laws::{completes, one_run};
+pub use rewrite_model::run::{BoundKind, Break, Broken, Ending, Hit, Run, StepRec};
 pub use run::run;
 use rw_outside::{FileHost, StreamSink};
-pub use status::{BoundKind, Status};
+pub use status::Status;
 use std::alloc::AllocError;
 use std::env;
 use std::io::ErrorKind;
@@ -48,5 +46,7 @@ fn main(rt: HostRuntime) -> ExitCode {
     ExitCode::from(status.code())
 }
 
+#[cfg(test)]
+mod runs;
 #[cfg(test)]
 mod tests;

@@ -1,21 +1,16 @@
 // Reads the files of the command.
-ghost use Rattle.std.specs.Prelude.{◌≡◌, ◌≤◌, ◌<◌, ◌⊎◌, ℕ, List, codes, length, IfOk, IfErr, IfSome, None};
-ghost use Rattle.pdllrw.specs.Patterns.{views};
-ghost use Rattle.mlir_tree.specs.WellFormed.{HomesAreLower, IsWellFormed};
+ghost use Rattle.std.specs.Prelude.{◌≡◌, ◌≤◌, ◌⊎◌, ℕ, List, length, IfOk, IfErr, IfSome};
+ghost use Rattle.mlir_tree.specs.WellFormed.{IsWellFormed};
 ghost use Rattle.pdll_syntax.specs.declared.fault.PatFault.{PatFault as Fault};
 ghost use Rattle.pdllrw.specs.Positions.{position_of};
-ghost use Rattle.pdllrw.specs.Run.{best};
 ghost use Rattle.mlir_parse.specs.declared.fault.ModFault.{ModFault as ModuleFault};
 ghost use Rattle.pdllrw.specs.Outcome.{RefusesPatterns, RefusesModule};
 ghost use Rattle.mlir_parse.specs.FileGrammar.{IsModuleFile};
-ghost use Rattle.pdll_parser.specs.FileGrammar.{IsPatternFile};
-ghost use Rattle.pdll_types.specs.Accepted.{IsAccepted};
 ghost use Rattle.mlir_parse.specs.Limits.{KeepsLimits};
 ghost use Rattle.pdllrw.specs.declared.status.Status.TheVariants as statuses;
 ghost use Rattle.pdllrw.specs.Accepted.{AcceptsPatterns, AcceptsModule};
 ghost use Rattle.pdllrw.specs.Stops.{StopsPatterns, StopsModule};
 
-use crate::patterns::{Pattern, built};
 use crate::position::{FIRST, Position, position_of};
 use crate::status::Status;
 use mlir_parse::fault::{ModFault, ModKind};
@@ -66,11 +61,10 @@ fn pattern_fault(kind: PatKind, at: usize) -> Stop
     placeless(Status::PatternFault(PatFault { kind, at }))
 }
 
-// The file that these bytes spell, which is accepted.
-fn accepted(alloc: Global, bytes: &[u8]) -> Result<Typed, Stop>
+// The accepted file that these bytes spell.
+fn typed_of(alloc: Global, bytes: &[u8]) -> Result<Typed, Stop>
     requires { length bytes.now ≤ 67108864 }
-    ensures spelled { IfOk result (λ typed. IsPatternFile bytes.now typed.file) }
-    ensures accepted { IfOk result (λ typed. IsAccepted typed.file) }
+    ensures found { IfOk result (λ typed. AcceptsPatterns typed.file bytes.now) }
     ensures stopped { IfErr result (λ stop. (stop.status ≡ statuses.NoMemory) ⊎ ((f : Fault) × (stop.status ≡ statuses.PatternFault f) × RefusesPatterns stop.place f bytes.now)) }
 {
     let file = match parse_patterns(alloc, bytes) {
@@ -85,24 +79,9 @@ fn accepted(alloc: Global, bytes: &[u8]) -> Result<Typed, Stop>
     }
 }
 
-// The patterns that these bytes spell.
-fn patterns_of(alloc: Global, bytes: &[u8]) -> Result<Vec<Pattern>, Stop>
-    requires { length bytes.now ≤ 67108864 }
-    ensures found { IfOk result (λ v. AcceptsPatterns (views v.items) bytes.now) }
-    ensures stopped { IfErr result (λ stop. (stop.status ≡ statuses.NoMemory) ⊎ ((f : Fault) × (stop.status ≡ statuses.PatternFault f) × RefusesPatterns stop.place f bytes.now)) }
-{
-    let typed = accepted(alloc, bytes)?;
-    match built(alloc, &typed.file) {
-        Ok(patterns) => Ok(patterns),
-        Err(Refusal::Fault(fault)) => Err(bad_patterns(bytes, fault)),
-        Err(Refusal::NoMemory) => Err(placeless(Status::NoMemory)),
-    }
-}
-
-/// The patterns of the file of this name.
-pub fn read_patterns<H: Host>(alloc: Global, host: &mut H, name: &str) -> Result<Vec<Pattern>, Stop>
-    ensures found { IfOk result (λ v. IfSome (H.file host.old name.now) (AcceptsPatterns (views v.items))) }
-    ensures allowed { IfOk result (λ v. best (views v.items) (codes "builtin.module") ≡ None) }
+/// The accepted pattern file of this name.
+pub fn read_patterns<H: Host>(alloc: Global, host: &mut H, name: &str) -> Result<Typed, Stop>
+    ensures found { IfOk result (λ typed. IfSome (H.file host.old name.now) (AcceptsPatterns typed.file)) }
     ensures stopped { IfErr result (λ stop. StopsPatterns (H.file host.old name.now) (H.faults host.old name.now) (H.faults host.new name.now) stop.place stop.status) }
     ensures never_falls { (n : List ℕ) → H.faults host.old n ≤ H.faults host.new n }
     ensures files { (n : List ℕ) → H.file host.new n ≡ H.file host.old n }
@@ -113,7 +92,7 @@ pub fn read_patterns<H: Host>(alloc: Global, host: &mut H, name: &str) -> Result
         Err(TakeErr::TooLong) => return Err(pattern_fault(PatKind::TooLong, MAX_BYTES)),
         Err(TakeErr::NoMemory) => return Err(placeless(Status::NoMemory)),
     };
-    patterns_of(alloc, &bytes)
+    typed_of(alloc, &bytes)
 }
 
 fn bad_module(bytes: &[u8], fault: ModFault) -> Stop
@@ -151,7 +130,6 @@ fn rows_of(alloc: Global, bytes: &[u8]) -> Result<Rows, Stop>
     requires { length bytes.now ≤ 67108864 }
     ensures found { IfOk result (λ m. AcceptsModule m bytes.now) }
     ensures well_formed { IfOk result (λ m. IsWellFormed m) }
-    ensures homes { IfOk result (λ m. HomesAreLower m.rows) }
     ensures stopped { IfErr result (λ stop. (stop.status ≡ statuses.NoMemory) ⊎ ((f : ModuleFault) × (stop.status ≡ statuses.ModuleFault f) × RefusesModule stop.place f bytes.now)) }
 {
     let file = tree_of(alloc, bytes)?;
@@ -166,7 +144,6 @@ fn rows_of(alloc: Global, bytes: &[u8]) -> Result<Rows, Stop>
 pub fn read_module<H: Host>(alloc: Global, host: &mut H, name: &str) -> Result<Rows, Stop>
     ensures found { IfOk result (λ m. IfSome (H.file host.old name.now) (AcceptsModule m)) }
     ensures well_formed { IfOk result (λ m. IsWellFormed m) }
-    ensures homes { IfOk result (λ m. HomesAreLower m.rows) }
     ensures stopped { IfErr result (λ stop. StopsModule (H.file host.old name.now) (H.faults host.old name.now) (H.faults host.new name.now) stop.place stop.status) }
     ensures never_falls { (n : List ℕ) → H.faults host.old n ≤ H.faults host.new n }
     ensures files { (n : List ℕ) → H.file host.new n ≡ H.file host.old n }

@@ -1,33 +1,30 @@
 // The whole command, from its words to the written bytes.
 ghost use Rattle.std.specs.Prelude.{◌≡◌, ◌≤◌, ◌⊎◌, [], ℕ, List, Some, map, length, drop, string_bytes, IfOk};
 ghost use Rattle.rw_outside.specs.Outside.{Rose, appended, PutsFront};
-ghost use Rattle.pdllrw.specs.Patterns.{views};
 ghost use Rattle.mlir_tree.specs.WellFormed.{IsWellFormed};
 ghost use Rattle.mlir_print.specs.NumberMaps.{AreNumbersOf};
 ghost use Rattle.mlir_print.specs.ModuleText.{module_text};
-ghost use Rattle.pdllrw.specs.View.{seen_run};
-ghost use Rattle.pdllrw.specs.Texts.{log_text};
+ghost use Rattle.rewrite_model.specs.LogText.{log_text};
 ghost use Rattle.rw_outside.specs.Puts.{Puts};
 ghost use Rattle.pdllrw.specs.declared.status.Status.TheVariants as statuses;
 ghost use Rattle.pdllrw.specs.Outcome.{IsOutcome, placed_line, patterns_line, module_line, plain_line, line_of, kind_of_ending};
 ghost use Rattle.pdllrw.specs.Written.{Tells, Shows, Writes};
 
-use crate::driver::{Ending, Run, drive};
-use crate::patterns::Pattern;
+use crate::pieces::put_pieces;
 use crate::position::Position;
 use crate::reading::{Stop, placeless, read_module, read_patterns};
-use crate::status::{BoundKind, Status};
-use crate::texts::{put_log, put_pieces};
-use crate::words::command;
+use crate::status::Status;
+use command_line::{Failure, command};
+use greedy_driver::drive_rows;
 use itoa::Buffer;
 use mlir_parse::fault::ModKind;
 use mlir_print::{Numbers, number, print_rows};
 use mlir_tree::rows::Rows;
 use pdll_syntax::fault::PatKind;
+use rewrite_model::run::{Ending, Run};
+use run_log::put_log;
 use rw_outside::{BufferedSink, Failed, Host, Sink, put_all};
 use std::alloc::{AllocError, Global};
-
-const MAX_STEPS: usize = 10_000;
 
 // How many bytes are gathered before they are written.
 const GATHERED: usize = 65_536;
@@ -116,7 +113,7 @@ fn status_of(ending: &Ending) -> Status
 {
     match ending {
         Ending::Converged => Status::Done,
-        Ending::Bound(_) => Status::Bound(BoundKind::Rewrites),
+        Ending::Bound(kind, _) => Status::Bound(*kind),
         Ending::Broken(broken) => Status::Broken(*broken),
     }
 }
@@ -153,30 +150,21 @@ fn write_module<S: Sink>(
 }
 
 // Gathers the log, and hands all of it on.
-fn gather_log<S: Sink>(
-    gathered: &mut BufferedSink<'_, S>,
-    patterns: &[Pattern],
-    run: &Run,
-) -> Result<(), Failed>
+fn gather_log<S: Sink>(gathered: &mut BufferedSink<'_, S>, run: &Run) -> Result<(), Failed>
     requires { drop gathered.old.done gathered.old.held.now.items ≡ [] }
-    ensures writes { Writes (S.state gathered.old.sink.now) (S.state gathered.new.sink.now) result (log_text (views patterns.now) (seen_run run.now)) }
+    ensures writes { Writes (S.state gathered.old.sink.now) (S.state gathered.new.sink.now) result (log_text run.now.taken run.now.ending) }
     ensures same_sink { gathered.new.sink.ghost_name ≡ gathered.old.sink.ghost_name }
 {
-    put_log(gathered, patterns, run)?;
+    put_log(run, gathered)?;
     gathered.flush()
 }
 
 // Writes the log, gathered in this buffer.
-fn write_log<S: Sink>(
-    log: &mut S,
-    buffer: &mut Vec<u8>,
-    patterns: &[Pattern],
-    run: &Run,
-) -> Result<(), Failed>
-    ensures { Writes (S.state log.old) (S.state log.new) result (log_text (views patterns.now) (seen_run run.now)) }
+fn write_log<S: Sink>(log: &mut S, buffer: &mut Vec<u8>, run: &Run) -> Result<(), Failed>
+    ensures { Writes (S.state log.old) (S.state log.new) result (log_text run.now.taken run.now.ending) }
 {
     let mut gathered = BufferedSink::new(log, buffer);
-    gather_log(&mut gathered, patterns, run)
+    gather_log(&mut gathered, run)
 }
 
 // Writes the module, and behind it the log.
@@ -184,19 +172,19 @@ fn show<S: Sink, G: Sink>(
     out: &mut S,
     log: &mut G,
     buffer: &mut Vec<u8>,
-    patterns: &[Pattern],
+    rows: &Rows,
     run: &Run,
     numbers: &Numbers,
 ) -> Status
-    requires well_formed { IsWellFormed run.now.left }
-    requires numbers { AreNumbersOf run.now.left.rows numbers.now }
+    requires well_formed { IsWellFormed rows.now }
+    requires numbers { AreNumbersOf rows.now.rows numbers.now }
     ensures { Shows (S.state out.old) (S.state out.new) (G.state log.old) (G.state log.new)
-        (module_text run.now.left.rows) (log_text (views patterns.now) (seen_run run.now)) (kind_of_ending run.now.ending) result }
+        (module_text rows.now.rows) (log_text run.now.taken run.now.ending) (kind_of_ending run.now.ending) result }
 {
-    let Ok(()) = write_module(out, buffer, &run.left, numbers) else {
+    let Ok(()) = write_module(out, buffer, rows, numbers) else {
         return Status::WriteFault;
     };
-    let Ok(()) = write_log(log, buffer, patterns, run) else {
+    let Ok(()) = write_log(log, buffer, run) else {
         return Status::WriteFault;
     };
     status_of(&run.ending)
@@ -214,28 +202,30 @@ pub fn run<H: Host, S: Sink, G: Sink>(
     ensures { IsOutcome
         (record { files = H.file host.old; faults = H.faults host.old; out = S.state out.old; log = G.state log.old })
         (record { files = H.file host.new; faults = H.faults host.new; out = S.state out.new; log = G.state log.new })
-        (map string_bytes words.now) result }
+        (map string_bytes words.entry.now) result }
 {
-    let Some((patterns_name, module_name)) = command(words) else {
-        return refuse(log, placeless(Status::Usage));
+    let command = match command(alloc, words) {
+        Ok(command) => command,
+        Err(Failure::Usage) => return refuse(log, placeless(Status::Usage)),
+        Err(Failure::Memory) => return Status::NoMemory,
     };
-    let patterns = match read_patterns(alloc, host, patterns_name) {
-        Ok(patterns) => patterns,
+    let typed = match read_patterns(alloc, host, command.patterns) {
+        Ok(typed) => typed,
         Err(stop) => return refuse(log, stop),
     };
-    let rows = match read_module(alloc, host, module_name) {
+    let mut rows = match read_module(alloc, host, command.module_file) {
         Ok(rows) => rows,
         Err(stop) => return refuse(log, stop),
     };
-    let Ok(run) = drive(alloc, &patterns, rows, MAX_STEPS) else {
+    let Ok(run) = drive_rows(alloc, &mut rows, &typed, command.bound) else {
         return Status::NoMemory;
     };
     // All that writing needs is made before the first byte.
-    let Ok(numbers) = number(alloc, &run.left) else {
+    let Ok(numbers) = number(alloc, &rows) else {
         return Status::NoMemory;
     };
     let Ok(mut buffer) = Vec::with_capacity(alloc, GATHERED) else {
         return Status::NoMemory;
     };
-    show(out, log, &mut buffer, &patterns, &run, &numbers)
+    show(out, log, &mut buffer, &rows, &run, &numbers)
 }

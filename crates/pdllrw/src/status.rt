@@ -1,14 +1,8 @@
 ghost use Rattle.std.specs.Prelude.{◌≡◌};
 
-use crate::driver::Broken;
 use mlir_parse::fault::ModFault;
 use pdll_syntax::fault::PatFault;
-
-/// Which limit ended a run.
-#[derive(Clone, Copy, Debug, PartialEq, Eq)]
-pub enum BoundKind {
-    Rewrites,
-}
+use rewrite_model::run::{BoundKind, Broken};
 
 /// How the program ended.
 #[derive(Clone, Copy, Debug, PartialEq, Eq)]

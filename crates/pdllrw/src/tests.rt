@@ -1,14 +1,15 @@
 use crate::run;
-use crate::status::{BoundKind, Status};
+use crate::status::Status;
 use mlir_parse::parse_module;
 use mlir_print::{number, print_rows};
 use mlir_resolve::resolve;
 use mlir_tree::rows::Rows;
+use rewrite_model::run::BoundKind;
 use rw_outside::{MemHost, MemSink, SureHost, SureSink};
 use std::alloc::{AllocError, Global};
 use std::test::Fail;
 
-const ROOM: usize = 16_777_216;
+pub const ROOM: usize = 16_777_216;
 
 const MODULE: &[u8] = b"\"t.a\"() : () -> ()\n\"t.b\"() : () -> ()\n\"t.a\"() : () -> ()\n";
 
@@ -17,7 +18,7 @@ const PATTERN: &[u8] = b"Pattern A => erase op<t.a>;";
 const USAGE: &[u8] =
     b"pdllrw: usage: pdllrw [--max-rewrites N] PATTERNS MODULE or --emit KIND PATTERNS or --generate N\n";
 
-fn files(
+pub fn files(
     alloc: Global,
     patterns: &[u8],
     module: &[u8],
@@ -34,7 +35,7 @@ fn files(
     Ok(files)
 }
 
-fn words(alloc: Global, texts: &[&str]) -> Result<Vec<String>, AllocError> {
+pub fn words(alloc: Global, texts: &[&str]) -> Result<Vec<String>, AllocError> {
     let mut words = Vec::new(alloc);
     for text in texts {
         words.push(String::from_str(alloc, text)?)?;
@@ -63,7 +64,7 @@ fn code_of(
 }
 
 // Whether a run with these words ends so.
-fn ends(
+pub fn ends(
     alloc: Global,
     texts: &[&str],
     patterns: &[u8],
@@ -82,7 +83,14 @@ fn ends(
 }
 
 // The same of the two files.
-fn gives(alloc: Global, patterns: &[u8], module: &[u8], code: u8, out: &[u8], log: &[u8]) -> bool {
+pub fn gives(
+    alloc: Global,
+    patterns: &[u8],
+    module: &[u8],
+    code: u8,
+    out: &[u8],
+    log: &[u8],
+) -> bool {
     ends(alloc, &["p", "m"], patterns, module, code, out, log)
 }
 
@@ -292,6 +300,9 @@ fn words_are_refused(alloc: Global) -> bool {
         && is_wrong_usage(alloc, &["p"])
         && is_wrong_usage(alloc, &["p", "m", "m"])
         && is_wrong_usage(alloc, &["p", "-m"])
+        && is_wrong_usage(alloc, &["--emit", "foo", "p"])
+        && is_wrong_usage(alloc, &["--generate", "1", "p"])
+        && is_wrong_usage(alloc, &["--max-rewrites", "1000001", "p", "m"])
 }
 
 #[test]
@@ -301,10 +312,6 @@ fn wrong_words_are_refused(rt: HostRuntime) {
 
 fn patterns_are_refused(alloc: Global) -> bool {
     refuses_patterns(
-        alloc,
-        b"Pattern => erase op<t.a>();",
-        b"pdllrw: patterns: 1:1: P0 NotBuilt\n",
-    ) && refuses_patterns(
         alloc,
         b"Pattern A => erase op<t.a>;\nPattern A => erase op<t.b>;",
         b"pdllrw: patterns: 2:9: P11 Redefined\n",
@@ -332,10 +339,6 @@ fn patterns_are_refused(alloc: Global) -> bool {
         alloc,
         b"Pattern { let v: Value; erase op<t.b>; }",
         b"pdllrw: patterns: 1:15: P18 Undetermined\n",
-    ) && refuses_patterns(
-        alloc,
-        b"Pattern A => erase op<t.a>;\nConstraint IsInt(a: Attr);\nPattern B with benefit(65534) => erase op<t.a>;",
-        b"pdllrw: patterns: 3:1: P0 NotBuilt\n",
     )
 }
 
@@ -467,7 +470,7 @@ fn answers_faults(rt: HostRuntime) -> Result<(), Fail> {
 fn stops_at_the_bound(rt: HostRuntime) -> Result<(), Fail> {
     let alloc = rt.alloc();
     let mut module = Vec::new(alloc);
-    for _ in 0..10_001 {
+    for _ in 0..101 {
         module.extend_from_slice(b"\"t.a\"() : () -> ()\n")?;
     }
     let mut host = SureHost::new(files(alloc, PATTERN, &module)?);
@@ -475,7 +478,7 @@ fn stops_at_the_bound(rt: HostRuntime) -> Result<(), Fail> {
     let mut log = MemSink::new(alloc, ROOM)?;
     let status = run(
         alloc,
-        &words(alloc, &["p", "m"])?,
+        &words(alloc, &["p", "--max-rewrites=100", "m"])?,
         &mut host,
         &mut out,
         &mut log,
@@ -484,7 +487,7 @@ fn stops_at_the_bound(rt: HostRuntime) -> Result<(), Fail> {
     assert_eq!(rt; status.code(), 1);
     assert_eq!(rt;
         log.bytes()
-            .ends_with(b"\nend bound rewrites steps 10000 pattern 0 root 10001\n"),
+            .ends_with(b"\nend bound rewrites steps 100 pattern 0 root 101\n"),
         true
     );
     Ok(())

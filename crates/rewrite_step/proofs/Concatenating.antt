@@ -3,7 +3,7 @@ use Rattle.std.proofs.Common.{◌≡◌, ℕ, ◌+◌, ◌<◌, ◌≤◌, List,
 use Rattle.std.specs.Prelude.{Ok, Err}
 use Rattle.rewrite_model.specs.declared.run.Break.{Break}
 use Rattle.rewrite_model.specs.Things.{joined, concatenated}
-use Rattle.rewrite_model.specs.Making.{Stop, breaks, or_break}
+use Rattle.rewrite_model.specs.Making.{Stop, or_break}
 use Rattle.mlir_tree.specs.declared.refusal.Refusal.{Refusal}
 use Rattle.mlir_tree.specs.declared.refusal.Refusal.TheVariants.{Fault, NoMemory}
 use Rattle.rewrite_step.specs.declared.stop.Stop.{Stop as StopNode}

@@ -1,13 +1,10 @@
 -- Whether a row stands inside another, by the rows before a place.
-use Rattle.std.proofs.Common.{◌≡◌, ◌≢◌, ℕ, zero, suc, ◌+◌, ◌<◌, ◌≤◌, Bool, true, false, ◌||◌, cond, List, [], ◌∷◌, ◌++◌, length, get_or, take, reverse, Option, Some, None, refl, sym, ap, ◌∙◌, arith}
+use Rattle.std.proofs.Common.{◌≡◌, ℕ, suc, ◌<◌, Bool, cond, List, [], ◌∷◌, length, get_or, take, reverse, sym, ap, ◌∙◌}
 use Rattle.std.specs.Prelude.{◌==◌}
 use Rattle.std.specs.Option.{option_map_or}
 use Rattle.std.specs.List.{list_any}
-use Rattle.std.proofs.lemmas.Bool.{ne_eqb}
-use Rattle.std.proofs.lemmas.Bool.Decides.{nat_tests}
 use Rattle.std.proofs.lemmas.List.{reverse-append}
 use Rattle.std.proofs.Math.Seq.{take-suc, take-length}
-use Rattle.mlir_tree.specs.declared.row.Home.{Home}
 use Rattle.mlir_tree.specs.declared.row.Row.{Row}
 use Rattle.mlir_tree.specs.Module.{homes_around, enclosing, is_contained}
 
@@ -23,25 +20,8 @@ last_first : (rows : List Row) (at j : ℕ) (e : Row) → at ≡ suc j → j < l
 last_first rows at j e is h = ap (λ n. reverse (take n rows)) is ∙ (ap reverse (take-suc rows j e h) ∙ reverse-append (take j rows) (get_or rows j e ∷ []))
 
 -- what the last of them tells
-abbrev last : List Row → ℕ → ℕ → ℕ → Row → Bool → Bool
+abbrev pub last : List Row → ℕ → ℕ → ℕ → Row → Bool → Bool
 last rows j u d r is = list_any (λ h. h.row == d) (cond is (option_map_or (λ h. h ∷ homes_around (reverse (take j rows)) h.row) r.home []) (homes_around (reverse (take j rows)) u))
 
-one_back : (rows : List Row) (at j u d : ℕ) (e : Row) → at ≡ suc j → j < length rows → inside rows at u d ≡ last rows j u d (get_or rows j e) ((get_or rows j e).id == u)
+pub one_back : (rows : List Row) (at j u d : ℕ) (e : Row) → at ≡ suc j → j < length rows → inside rows at u d ≡ last rows j u d (get_or rows j e) ((get_or rows j e).id == u)
 one_back rows at j u d e is h = ap (λ rs. list_any (λ h. h.row == d) (homes_around rs u)) (last_first rows at j e is h)
-
-pub other_row : (rows : List Row) (at j u d : ℕ) (e : Row) → at ≡ suc j → j < length rows → (get_or rows j e).id ≢ u → inside rows at u d ≡ inside rows j u d
-other_row rows at j u d e is h other = one_back rows at j u d e is h ∙ ap (last rows j u d (get_or rows j e)) (ne_eqb (get_or rows j e).id u other)
-
-this_row : (rows : List Row) (j u d : ℕ) (r : Row) → r.id ≡ u → last rows j u d r (r.id == u) ≡ last rows j u d r true
-this_row rows j u d r same = let is : (r.id == u) ≡ true = grind (arith, nat_tests, same) in ap (last rows j u d r) is
-
-pub without_home : (rows : List Row) (at j u d : ℕ) (e : Row) → at ≡ suc j → j < length rows → (get_or rows j e).id ≡ u → (get_or rows j e).home ≡ None → inside rows at u d ≡ false
-without_home rows at j u d e is h same none =
-    one_back rows at j u d e is h ∙ (this_row rows j u d (get_or rows j e) same
-    ∙ ap (λ (o : Option Home). list_any (λ (h : Home). h.row == d) (option_map_or (λ h. h ∷ homes_around (reverse (take j rows)) h.row) o [])) none)
-
-pub with_home : (rows : List Row) (at j u d : ℕ) (e : Row) (k : Home) → at ≡ suc j → j < length rows → (get_or rows j e).id ≡ u → (get_or rows j e).home ≡ Some k
-    → inside rows at u d ≡ ((k.row == d) || inside rows j k.row d)
-with_home rows at j u d e k is h same some =
-    one_back rows at j u d e is h ∙ (this_row rows j u d (get_or rows j e) same
-    ∙ ap (λ (o : Option Home). list_any (λ (h : Home). h.row == d) (option_map_or (λ h. h ∷ homes_around (reverse (take j rows)) h.row) o [])) some)

@@ -3,4 +3,11 @@ pub mod Loops
 pub mod Typing
 pub mod Concatenating
 pub mod Inside
-pub mod Kept
+pub mod Removing
+pub mod Moving
+pub mod Sorting
+pub mod Outcomes
+pub mod Stepping
+pub mod Marking
+pub mod Counting
+pub mod Sample

@@ -1,4 +1,7 @@
 pub mod View
 pub mod Ends
 pub mod Typing
+pub mod Removing
+pub mod Sorting
+pub mod Marking
 pub mod Worked

@@ -1,5 +1,5 @@
 -- What the program's stops and the progress of a step stand for.
-use Rattle.std.specs.Prelude.{ℕ, List, map}
+use Rattle.std.specs.Prelude.{map}
 use Rattle.rewrite_model.specs.Making.{Stop, breaks, bound, Start, Progress}
 use Rattle.row_matcher.specs.View.{thing_of}
 use Rattle.rewrite_step.specs.declared.stop.Stop.{Stop as StopNode}

@@ -1,79 +1,174 @@
 //! The edits of the rows of a module.
 
-ghost use Rattle.std.specs.Prelude.{◌≡◌, ◌≤◌, ◌+◌, ◌∷◌, [], Bool, not, max, map, filter, length, Some, IfOk, OnOk};
-ghost use Rattle.mlir_tree.specs.declared.row.Row.{Row as RowOf};
+ghost use Rattle.std.specs.Prelude.{◌≡◌, ◌≤◌, ◌+◌, ◌∷◌, ◌++◌, [], ℕ, max, map, filter, position, reverse, length, slice_index_or, Some, IfOk, OnOk};
 ghost use Rattle.mlir_tree.specs.Module as rows_of;
-ghost use Rattle.mlir_tree.specs.Edits.{is_removed, removed};
+ghost use Rattle.mlir_tree.specs.Edits.{removed};
 ghost use Rattle.mlir_tree.specs.Edits as spec;
+ghost use Rattle.rewrite_step.specs.Removing.{is_inner, has_inner_home, stays};
 
 use crate::places::place_of;
-use mlir_tree::row::Row;
+use indexmap::IndexMap;
+use mlir_tree::row::{Home, Row};
 use mlir_tree::rows::{RowList, Rows};
+use mlir_tree::value::{Val, ValList};
 use row_edits::removal::put_back;
 use sqlite_items::Items;
 use std::alloc::{AllocError, Global};
 
-// Whether the row of this number stands inside the row of another.
-fn is_contained(rows: &[Row], id: u32, owner: u32) -> bool
-    ensures { result ≡ rows_of.is_contained rows.now id owner }
+// Whether the last row of this number, among those seen, stands inside the row that goes.
+fn is_inner(inner: &IndexMap<u32, bool>, id: u32) -> bool
+    ensures { result ≡ is_inner inner.now id }
 {
-    let mut number = id;
-    let mut at = rows.len();
-    while at > 0 {
-        at -= 1;
-        if rows[at].id == number {
-            match rows[at].home {
-                None => return false,
-                Some(home) => {
-                    if home.row == owner {
-                        return true;
-                    }
-                    number = home.row;
-                }
-            }
-        }
+    match inner.get(&id) {
+        None => false,
+        Some(is) => *is,
     }
-    false
 }
 
-// Whether a row goes when another is removed.
-fn goes(rows: &[Row], owner: u32, id: u32) -> bool
-    ensures { result ≡ is_removed rows.now owner id }
+// Whether a row with this home stands inside the row that goes.
+fn has_inner_home(inner: &IndexMap<u32, bool>, home: Option<Home>, owner: u32) -> bool
+    ensures { result ≡ has_inner_home inner.now home owner }
 {
-    id == owner || is_contained(rows, id, owner)
+    match home {
+        None => false,
+        Some(home) => home.row == owner || is_inner(inner, home.row),
+    }
 }
 
-// For each row, whether it goes.
-fn marks_of(alloc: Global, rows: &[Row], owner: u32) -> Result<Items<bool>, AllocError>
-    ensures { IfOk result (λ marks. marks ≡ map (λ r. is_removed rows.now owner r.id) rows.now) }
+// For each number, whether the last row of it stands inside the row that goes.
+fn inner_rows(alloc: Global, rows: &[Row], owner: u32) -> Result<IndexMap<u32, bool>, AllocError>
+    ensures { IfOk result (λ inner. (u : ℕ) → is_inner inner u ≡ rows_of.is_contained rows.now u owner) }
 {
-    let mut marks = Items::new(alloc);
+    let mut inner = IndexMap::new(alloc);
     for row in rows {
-        marks.push(goes(rows, owner, row.id))?;
+        let goes = has_inner_home(&inner, row.home, owner);
+        inner.insert(row.id, goes)?;
     }
-    Ok(marks)
+    Ok(inner)
 }
 
-// Takes out the rows that are marked.
-fn take_marked(rows: &mut RowList, marks: &[bool])
-    requires { length marks.now ≡ length rows.old }
-    ensures { (p : RowOf → Bool) → marks.now ≡ map p rows.old → rows.new ≡ filter (λ r. not (p r)) rows.old }
+// Whether a row stays.
+fn stays(inner: &IndexMap<u32, bool>, owner: u32, id: u32) -> bool
+    ensures { result ≡ stays inner.now owner id }
 {
-    let mut at = marks.len();
-    while at > 0 {
-        at -= 1;
-        if marks[at] {
-            drop(rows.remove(at));
+    !(id == owner || is_inner(inner, id))
+}
+
+// Moves the rows that stay to another list, the last first. The others go.
+fn move_kept(
+    rows: &mut RowList,
+    inner: &IndexMap<u32, bool>,
+    owner: u32,
+    kept: &mut RowList,
+) -> Result<(), AllocError>
+    ensures none { OnOk result (rows.new ≡ []) }
+    ensures kept { OnOk result (kept.new ≡ kept.old ++ reverse (filter (λ r. stays inner.now owner r.id) rows.old)) }
+{
+    while let Some(row) = rows.pop() {
+        if stays(inner, owner, row.id) {
+            kept.push(row)?;
         }
     }
+    Ok(())
 }
 
-/// Removes a row with all rows inside it (Pattern Rewriting guide, "eraseOp"). Where memory is out, the rows stay.
+// Moves rows behind others, the last first.
+fn move_back(turned: &mut RowList, rows: &mut RowList) -> Result<(), AllocError>
+    ensures { OnOk result (rows.new ≡ rows.old ++ reverse turned.old) }
+{
+    while let Some(row) = turned.pop() {
+        rows.push(row)?;
+    }
+    Ok(())
+}
+
+/// Removes a row with all rows inside it (Pattern Rewriting guide, "eraseOp"). Where memory is out, nothing is said of the rows.
 pub fn remove(alloc: Global, rows: &mut Rows, owner: u32) -> Result<(), AllocError>
     ensures { OnOk result (rows.new ≡ removed owner rows.old) }
 {
-    let marks = marks_of(alloc, rows.rows.as_slice(), owner)?;
-    take_marked(&mut rows.rows, marks.as_slice());
+    let inner = inner_rows(alloc, rows.rows.as_slice(), owner)?;
+    let mut kept = Items::new(alloc);
+    move_kept(&mut rows.rows, &inner, owner, &mut kept)?;
+    move_back(&mut kept, &mut rows.rows)?;
+    Ok(())
+}
+
+// Whether the values are the same.
+fn same(v: Val, w: Val) -> bool
+    ensures { result ≡ spec.val_eq v w }
+{
+    match (v, w) {
+        (Val::Res(d, k), Val::Res(e, j)) => d == e && k == j,
+        (Val::Arg(d, g, k), Val::Arg(e, h, j)) => d == e && g == h && k == j,
+        _ => false,
+    }
+}
+
+// The place of a value in a list.
+fn place_in(values: &[Val], value: Val) -> Option<usize>
+    ensures { result ≡ position (spec.val_eq value) values.now }
+{
+    values.iter().position(|other| same(value, *other))
+}
+
+// The value at a place, or another where there is none.
+fn value_or(values: &[Val], at: usize, other: Val) -> Val
+    ensures { result ≡ slice_index_or values.now at other }
+{
+    if at < values.len() { values[at] } else { other }
+}
+
+// What stands for a value.
+fn substitute_of(from: &[Val], to: &[Val], value: Val) -> Val
+    ensures { result ≡ spec.substitute from.now to.now value }
+{
+    match place_in(from, value) {
+        None => value,
+        Some(at) => value_or(to, at, value),
+    }
+}
+
+// Puts in the place of each value what stands for it.
+fn substitute_values(values: &mut ValList, from: &[Val], to: &[Val])
+    ensures { values.new ≡ map (spec.substitute from.now to.now) values.old }
+{
+    for at in 0..values.len() {
+        let all = values.as_slice();
+        let value = substitute_of(from, to, all[at]);
+        values.set(at, value);
+    }
+}
+
+// Moves rows to another list, the last first, with the values put in.
+fn move_substituted(
+    rows: &mut RowList,
+    from: &[Val],
+    to: &[Val],
+    turned: &mut RowList,
+) -> Result<(), AllocError>
+    ensures none { OnOk result (rows.new ≡ []) }
+    ensures turned { OnOk result (turned.new ≡ turned.old ++ reverse (map (spec.substituted_row from.now to.now) rows.old)) }
+{
+    while let Some(mut row) = rows.pop() {
+        substitute_values(&mut row.operands, from, to);
+        turned.push(row)?;
+    }
+    Ok(())
+}
+
+/// Puts in the place of each member of `from` the member of `to` at its place, in the operands of all rows at once
+/// (Pattern Rewriting guide, "replaceAllUsesWith"). Where memory is out, nothing is said of the rows.
+pub fn substitute(
+    alloc: Global,
+    rows: &mut Rows,
+    from: &[Val],
+    to: &[Val],
+) -> Result<(), AllocError>
+    ensures { OnOk result (rows.new ≡ spec.substituted from.now to.now rows.old) }
+{
+    let mut turned = Items::new(alloc);
+    move_substituted(&mut rows.rows, from, to, &mut turned)?;
+    move_back(&mut turned, &mut rows.rows)?;
     Ok(())
 }
 

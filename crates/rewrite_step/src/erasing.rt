@@ -5,11 +5,11 @@ ghost use Rattle.pdll_patterns.specs.View.{part_of};
 ghost use Rattle.rewrite_step.specs.View.{start_of, progress_of};
 ghost use Rattle.rewrite_step.specs.Ends.{Ends};
 
-use pdll_patterns::action::Part;
 use crate::edits::remove;
 use crate::progress::{Progress, Start};
 use crate::stop::{Stop, breaks};
 use mlir_tree::refusal::Refusal;
+use pdll_patterns::action::Part;
 use rewrite_model::run::Break;
 use std::alloc::Global;
 

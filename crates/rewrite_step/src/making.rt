@@ -4,7 +4,7 @@ ghost use Rattle.std.specs.Prelude.{◌≡◌, map, IfOk, OnOk, Option};
 ghost use Rattle.mlir_tree.specs.Tree.{Attr as AttrOf};
 ghost use Rattle.native_set.specs.Answers.{Gives};
 ghost use Rattle.rewrite_model.specs.Things.{Thing as ThingOf};
-ghost use Rattle.rewrite_model.specs.Making.{Outcome, Start as StartOf};
+ghost use Rattle.rewrite_model.specs.Making.{Outcome, Start as StartOf, Progress as ProgressOf};
 ghost use Rattle.rewrite_model.specs.Making as spec;
 ghost use Rattle.row_matcher.specs.View.{thing_of};
 ghost use Rattle.pdll_patterns.specs.View.{part_of};
@@ -12,18 +12,18 @@ ghost use Rattle.rewrite_step.specs.View.{start_of, progress_of};
 ghost use Rattle.rewrite_step.specs.Ends.{Ends};
 ghost use Rattle.rewrite_step.specs.Worked.{the_result, the_only_result, all_results, all_result_types, attr_outcome, given};
 
-use pdll_patterns::action::Part;
 use crate::places::{only_result_at, result_at};
 use crate::progress::{Progress, Start};
 use crate::stop::{Stop, breaks};
-use row_matcher::thing::Thing;
 use mlir_tree::attr::Attr;
 use mlir_tree::refusal::Refusal;
 use mlir_tree::row::Row;
 use mlir_tree::ty::copy_tys;
 use mlir_tree::value::{Val, ValList};
 use native_set::arithmetic::Refused;
+use pdll_patterns::action::Part;
 use rewrite_model::run::Break;
+use row_matcher::thing::Thing;
 use sqlite_items::Items;
 use std::alloc::{AllocError, Global};
 
@@ -62,7 +62,7 @@ impl Progress {
 
     // The same, where nothing stops it.
     pub fn give_ended(&mut self, thing: Result<Thing, Refusal<Stop>>) -> Result<(), Refusal<Stop>>
-        ensures { (s : StartOf) (o : Outcome ThingOf) → Ends thing_of o thing → Ends (λ _. progress_of self.new) (given s (progress_of self.old) o) result }
+        ensures { (s : StartOf) (o : Outcome ThingOf) (q : Outcome ProgressOf) → Ends thing_of o thing → given s (progress_of self.old) o ≡ q → Ends (λ _. progress_of self.new) q result }
     {
         match thing {
             Err(e) => Err(e),

@@ -8,10 +8,10 @@ ghost use Rattle.rewrite_model.specs.Making as model;
 ghost use Rattle.row_matcher.specs.View.{thing_of};
 ghost use Rattle.rewrite_step.specs.Typing.{has_type};
 
-use row_matcher::thing::Thing;
 use mlir_tree::row::Row;
 use mlir_tree::ty::Ty;
 use mlir_tree::value::Val;
+use row_matcher::thing::Thing;
 
 fn first_place(rows: &[Row], id: u32) -> Option<usize>
     ensures place { result ≡ position (λ r. r.id == id) rows.now }

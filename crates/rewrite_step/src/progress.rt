@@ -13,10 +13,8 @@ ghost use Rattle.pdll_patterns.specs.View.{part_of, named_part_of};
 ghost use Rattle.rewrite_step.specs.View.{start_of, progress_of};
 ghost use Rattle.rewrite_step.specs.Ends.{Ends};
 
-use pdll_patterns::action::{NamedPart, Part};
 use crate::places::{only_result_at, result_at, row_at, row_of};
 use crate::stop::{Stop, breaks};
-use row_matcher::thing::Thing;
 use mlir_tree::attr::Dict;
 use mlir_tree::refusal::Refusal;
 use mlir_tree::row::Row;
@@ -24,7 +22,9 @@ use mlir_tree::rows::Rows;
 use mlir_tree::ty::TyList;
 use mlir_tree::value::ValList;
 use pdll_expand::expr::Expr;
+use pdll_patterns::action::{NamedPart, Part};
 use rewrite_model::run::Break;
+use row_matcher::thing::Thing;
 use sqlite_items::Items;
 use std::alloc::{AllocError, Global};
 
@@ -136,7 +136,8 @@ impl Progress {
         ensures { Ends (λ r. r.now) (spec.live_row (start_of start.now) (progress_of self.now) (part_of x)) result }
     {
         let number = number_of(self.part(alloc, start, x)?);
-        live(self.current.rows.as_slice(), number)
+        let rows = self.current.rows.as_slice();
+        live(rows, number)
     }
 
     // ---- lists

@@ -3,3 +3,4 @@ pub mod Asking
 pub mod Learning
 pub mod Learnt
 pub mod Known
+pub mod Naming

@@ -16,11 +16,13 @@ ghost use Rattle.row_matcher.specs.Asked.{Asks};
 pub mod denoting;
 pub mod holding;
 mod learning;
+mod naming;
 pub mod parts;
 
 use crate::matching::denoting::{is, seen_at};
 use crate::matching::holding::holds;
 use crate::matching::learning::told;
+use crate::matching::naming::may_be_root;
 use crate::thing::{Seen, Thing};
 use mlir_resolve::index::{RowIndex, row_of};
 use mlir_tree::row::Row;
@@ -163,6 +165,9 @@ pub fn match_at(
     // Where nothing is found, it doesn't match.
     ensures none { IfOk result (λ found. IfNone found ((p : Pattern) → Asks kinds.now demands.now root p → IsDetermined p → Matches rows.now p id → ⊥)) }
 {
+    if !may_be_root(row_of(rows, index, id), demands, root) {
+        return Ok(None);
+    }
     let found = told(alloc, rows, index, kinds, demands, root, id)?;
     match found {
         None => Ok(None),

@@ -12,12 +12,12 @@ ghost use Rattle.row_matcher.specs.Behind.{Leaves};
 ghost use Rattle.row_matcher.specs.View.{thing_of, seen_of};
 
 use crate::matching::denoting::{denoted, is, row_given, seen_at, type_of};
+use crate::matching::naming::is_named;
 use crate::matching::parts::has_parts;
 use crate::natives::{holds_of_one, holds_of_two};
 use crate::thing::{Seen, Thing};
 use mlir_resolve::index::RowIndex;
 use mlir_tree::row::Row;
-use mlir_tree::text::equal_texts;
 use mlir_tree::ty::Ty;
 use mlir_tree::value::Val;
 use native_set::native::Constraint;
@@ -88,10 +88,7 @@ fn has_name(rows: &[Row], index: &RowIndex, given: &[Thing], x: usize, name: &[u
     requires { Indexes index.now rows.now }
     ensures { IsTrue result ↔ Holds rows.now (map thing_of given.now) (demand.has_name x name.now) }
 {
-    match row_given(rows, index, given, x) {
-        Some(r) => equal_texts(r.name.as_slice(), name),
-        None => false,
-    }
+    is_named(row_given(rows, index, given, x), name)
 }
 
 /// Whether a number was given a row of these parts.

@@ -1,8 +1,8 @@
-use Rattle.std.proofs.Common.{rules, ap, ap₂, refl, codes, true, Option, Some, None, IsSomeAnd, ◌≡◌, ◌∙◌}
+use Rattle.std.proofs.Common.{rules, ap, ap₂, codes, true, Option, Some, None, IsSomeAnd, ◌≡◌, ◌∙◌}
 use Rattle.std.proofs.lemmas.Result.{IfOk-weaker}
 use Rattle.clap.specs.Walk.{Rule, rule_of}
 use Rattle.clap.specs.Simple.{app_of, app_of_fields, on_top, with_rule}
-use Rattle.command_line.specs.App.{option, files, bare, the_app}
+use Rattle.command_line.specs.App.{option, files, bare}
 use Rattle.command_line.proofs.simple.app.Goals as goal
 
 known : {X : Type 0} (o : Option X) (x : X) → IsSomeAnd o (λ y. y ≡ x) → o ≡ Some x

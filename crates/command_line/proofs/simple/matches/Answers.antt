@@ -1,11 +1,7 @@
 use Rattle.std.proofs.Common.{◌≡◌, ◌≢◌, [], ◌∷◌, refl, true, ap, sym, subst, ◌∙◌, map, inl, inr, string_bytes}
-use Rattle.std.proofs.lemmas.Result.{IfOk-weaker}
-use denote.Enum.Bare.{same_false}
-use Rattle.clap.specs.Kinds.{Kinds, HasKind, FailsBy}
-use Rattle.clap.specs.Words.{app_of, kind_of, HasMatchesOf}
-use Rattle.clap.specs.Simple.{is_simple}
+use Rattle.clap.specs.Kinds.{Kinds, HasKind}
+use Rattle.clap.specs.Words.{kind_of, HasMatchesOf}
 use Rattle.clap.specs.Faults.{fault_of, is_simple_and_free}
-use Rattle.clap.specs.contracts.error.kind.ErrorKind.{the_type}
 use Rattle.clap.specs.declared.error.Error.{Error}
 use Rattle.clap.specs.declared.error.kind.ErrorKind.TheVariants as kind
 use Rattle.command_line.specs.App.{the_app}

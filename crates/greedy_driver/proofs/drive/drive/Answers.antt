@@ -1,5 +1,4 @@
-use Rattle.std.proofs.Common.{◌≡◌, map, ◌-◌, ◌<◌, subst}
-use Rattle.mlir_tree.specs.WellFormed.{IsWellFormed}
+use Rattle.std.proofs.Common.{map, subst}
 use Rattle.pdll_patterns.specs.View.{pattern_of}
 use Rattle.greedy_driver.specs.Course.{IsTurn}
 use Rattle.greedy_driver.proofs.Turns.{runs_on, reaches_on}

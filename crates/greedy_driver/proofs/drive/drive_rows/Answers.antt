@@ -1,6 +1,5 @@
-use Rattle.std.proofs.Common.{◌≡◌, map, sym, ap, subst, ◌∙◌}
+use Rattle.std.proofs.Common.{map, sym, ap, subst, ◌∙◌}
 use Rattle.std.proofs.Math.Logic.{∥∥₁_map}
-use Rattle.rewrite_model.specs.Expanding.{patterns}
 use Rattle.rewrite_model.specs.Determined.{AreDetermined}
 use Rattle.rewrite_model.specs.Running.{stays}
 use Rattle.pdll_patterns.specs.View.{pattern_of}

@@ -1,4 +1,4 @@
-use Rattle.std.proofs.Common.{◌≡◌, ◌+◌, ◌∷◌, ◌++◌, map, length, Some, None, refl, sym, ap, subst, ◌∙◌}
+use Rattle.std.proofs.Common.{◌+◌, ◌∷◌, ◌++◌, map, length, sym, ap, subst, ◌∙◌}
 use Rattle.std.specs.Prelude.{take, drop}
 use Rattle.rewrite_model.specs.Matching.{NoneAt}
 use Rattle.pdll_patterns.specs.View.{pattern_of}

@@ -1,4 +1,4 @@
-use Rattle.std.proofs.Common.{◌≡◌, map, sym, ap}
+use Rattle.std.proofs.Common.{map, sym, ap}
 use Rattle.row_matcher.specs.View.{thing_of}
 use Rattle.pdll_patterns.specs.View.{pattern_of, action_of}
 use Rattle.rewrite_model.specs.Step.{step}

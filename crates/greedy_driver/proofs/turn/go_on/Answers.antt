@@ -1,4 +1,4 @@
-use Rattle.std.proofs.Common.{◌≡◌, map, None, refl, sym, ap, subst, ◌∙◌}
+use Rattle.std.proofs.Common.{map, refl, subst}
 use Rattle.rewrite_model.specs.Running.{converges, stays}
 use Rattle.pdll_patterns.specs.View.{pattern_of}
 use Rattle.greedy_driver.specs.Found.{IsFirst}

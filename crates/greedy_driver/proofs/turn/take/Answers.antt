@@ -24,13 +24,15 @@ bounds-patterns-found c = inside c.args.patterns.now c.args.found.now.at c.requi
 pub returns-in-Ok-clause-turn : goal.returns-in-Ok-clause-turn
 returns-in-Ok-clause-turn c =
     let q = c.index-patterns-found.result in
-    let f = c.args.found.now in
-    (omega (arith, c.if-left-eq0.false), goes (map pattern_of c.args.patterns.now) c.args.rows.now c.advance.new.rows c.in_ok-number_of.field-0 c.args.row (pattern_of q) f c.in-Ok.told
-    c.in_ok-number_of.ensures
-    (at_place c.args.patterns.now f.at q (inside c.args.patterns.now f.at c.requires.found.0 c.requires.found.2.declared) ∙ ap (λ x. Some (pattern_of x)) (sym c.index-patterns-found.is))
-    c.requires.found
-    (subst (λ g. step (pattern_of q) (map thing_of g) c.args.row c.args.rows.now ≡ Ok c.advance.new.rows) c.as_slice.ensures c.in-Ok.ensures.steps)
-    c.in-Ok.ensures.told)
+    let f = c.args.found.now in (
+      omega (arith, c.if-left-eq0.false),
+      goes (map pattern_of c.args.patterns.now) c.args.rows.now c.advance.new.rows c.in_ok-number_of.field-0 c.args.row (pattern_of q) f c.in-Ok.told
+          c.in_ok-number_of.ensures
+          (at_place c.args.patterns.now f.at q (inside c.args.patterns.now f.at c.requires.found.0 c.requires.found.2.declared) ∙ ap (λ x. Some (pattern_of x)) (sym c.index-patterns-found.is))
+          c.requires.found
+          (subst (λ g. step (pattern_of q) (map thing_of g) c.args.row c.args.rows.now ≡ Ok c.advance.new.rows) c.as_slice.ensures c.in-Ok.ensures.steps)
+          c.in-Ok.ensures.told,
+    )
 
 pub returns-in-Ok-clause-reached : goal.returns-in-Ok-clause-reached
 returns-in-Ok-clause-reached c =
@@ -47,14 +49,16 @@ returns-in-Ok-clause-reached c =
 pub returns-in-Err-Fault-clause-turn : goal.returns-in-Err-Fault-clause-turn
 returns-in-Err-Fault-clause-turn c =
     let q = c.index-patterns-found.result in
-    let f = c.args.found.now in
-    (c.in-Err-Fault.ensures.stays, subst (λ e. Runs (map pattern_of c.args.patterns.now) c.args.left c.args.rows.now (ended e c.args.rows.now)) (sym c.ending_by.ensures)
-    (stops (map pattern_of c.args.patterns.now) c.args.rows.now c.args.left c.in_ok-number_of.field-0 c.args.row (pattern_of q) f (stop_of c.in-Err-Fault.stop)
-    (omega (arith, c.if-left-eq0.false))
-    c.in_ok-number_of.ensures
-    (at_place c.args.patterns.now f.at q (inside c.args.patterns.now f.at c.requires.found.0 c.requires.found.2.declared) ∙ ap (λ x. Some (pattern_of x)) (sym c.index-patterns-found.is))
-    c.requires.found
-    (subst (λ g. step (pattern_of q) (map thing_of g) c.args.row c.args.rows.now ≡ Err (stop_of c.in-Err-Fault.stop)) c.as_slice.ensures (c.in-Err-Fault.ensures.stops c.in-Err-Fault.stop (ap Err c.in-Err-Fault.field-0-is)))))
+    let f = c.args.found.now in (
+      c.in-Err-Fault.ensures.stays,
+      subst (λ e. Runs (map pattern_of c.args.patterns.now) c.args.left c.args.rows.now (ended e c.args.rows.now)) (sym c.ending_by.ensures)
+          (stops (map pattern_of c.args.patterns.now) c.args.rows.now c.args.left c.in_ok-number_of.field-0 c.args.row (pattern_of q) f (stop_of c.in-Err-Fault.stop)
+          (omega (arith, c.if-left-eq0.false))
+          c.in_ok-number_of.ensures
+          (at_place c.args.patterns.now f.at q (inside c.args.patterns.now f.at c.requires.found.0 c.requires.found.2.declared) ∙ ap (λ x. Some (pattern_of x)) (sym c.index-patterns-found.is))
+          c.requires.found
+          (subst (λ g. step (pattern_of q) (map thing_of g) c.args.row c.args.rows.now ≡ Err (stop_of c.in-Err-Fault.stop)) c.as_slice.ensures (c.in-Err-Fault.ensures.stops c.in-Err-Fault.stop (ap Err c.in-Err-Fault.field-0-is)))),
+    )
 
 pub returns-in-Err-Fault-clause-reached : goal.returns-in-Err-Fault-clause-reached
 returns-in-Err-Fault-clause-reached c = same_rows (map pattern_of c.args.patterns.now) c.args.left c.args.rows.now c.advance.new.rows c.in-Err-Fault.ensures.stays

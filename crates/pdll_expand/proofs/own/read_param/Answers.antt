@@ -6,7 +6,7 @@ use Rattle.rewrite_model.specs.Names.{Meant}
 use Rattle.rewrite_model.specs.MatchPart.{Scene, new_variable, see_name, kind_of_refs}
 use Rattle.pdll_expand.specs.View.{meant_of}
 use Rattle.pdll_expand.specs.Scenes.{Gave}
-use Rattle.pdll_expand.specs.Table.{quiet}
+use Rattle.pdll_expand.specs.Table.{in_sight}
 use Rattle.pdll_expand.proofs.Steps.{gave, then_gave}
 use Rattle.pdll_expand.proofs.own.read_param.Goals as goal
 
@@ -15,7 +15,7 @@ with_kind at n k = new_variable at k >>= (λ y. see_name n y >> pure y)
 
 pub returns : goal.returns
 returns c =
-    let q = quiet c.args.constraints.now in
+    let q = in_sight c.args.constraints in
     let p = c.args.param.now in
     let at = p.name.at in
     let n = c.as_slice-2.result.now in

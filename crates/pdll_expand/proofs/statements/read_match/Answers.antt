@@ -2,14 +2,14 @@ use Rattle.std.proofs.Common.{◌≡◌, suc, ◌-◌, length, take, subst, arit
 use Rattle.rewrite_model.specs.Expanding.{last_root}
 use Rattle.pdll_expand.specs.Scenes.{Does}
 use Rattle.pdll_expand.specs.Reading.{statements}
-use Rattle.pdll_expand.specs.Table.{quiet}
+use Rattle.pdll_expand.specs.Table.{in_sight}
 use Rattle.pdll_expand.proofs.Plain.{match_is}
 use Rattle.pdll_expand.proofs.Steps.{then_do}
 use Rattle.pdll_expand.proofs.statements.read_match.Goals as goal
 
 pub returns-in_ok-read_stmts-in-len1-up : goal.returns-in_ok-read_stmts-in-len1-up
 returns-in_ok-read_stmts-in-len1-up c =
-    let q = quiet c.args.constraints.now in
+    let q = in_sight c.args.constraints in
     let ss = c.args.all.now in
     let n = length ss - 1 in
     let s = c.last-item.result in

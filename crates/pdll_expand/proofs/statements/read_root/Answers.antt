@@ -4,13 +4,13 @@ use Rattle.rewrite_model.specs.MatchPart.{expression, number_of}
 use Rattle.rewrite_model.specs.Expanding.{root_of}
 use Rattle.pdll_expand.specs.View.{meant_of, expr_of}
 use Rattle.pdll_expand.specs.Scenes.{Gave}
-use Rattle.pdll_expand.specs.Table.{quiet}
+use Rattle.pdll_expand.specs.Table.{in_sight}
 use Rattle.pdll_expand.proofs.Steps.{gave, then_gave}
 use Rattle.pdll_expand.proofs.statements.read_root.Goals as goal
 
 pub returns : goal.returns
 returns c =
-    let q = quiet c.args.constraints.now in
+    let q = in_sight c.args.constraints in
     let e = c.args.x.now in
     let old = c.args.scene.now in
     let new = c.read_expr.new.scene in

@@ -1,7 +1,5 @@
 use Rattle.std.proofs.lemmas.Result.{err_from_is_err_and}
-use Rattle.pdllrw.specs.Patterns.{views}
-use Rattle.pdllrw.specs.View.{seen_run}
-use Rattle.pdllrw.specs.Texts.{log_text}
+use Rattle.rewrite_model.specs.LogText.{log_text}
 use Rattle.pdllrw.proofs.Gathered.{gathering_fails, flushes}
 use Rattle.pdllrw.proofs.run.gather_log.Goals as goal
 
@@ -10,7 +8,7 @@ returns-in_err-put_log-clause-writes g c =
     let p = err_from_is_err_and c.from_residual.result c.from_residual.ensures.1 in
     let before = c.args.gathered.now in
     let now = c.put_log.new.sink in
-    gathering_fails g.S.Sink.state before.sink now.sink before.held.now.items now.held.now.items before.done now.done (log_text (views c.args.patterns.now) (seen_run c.args.run.now)) c.requires c.from_residual.result p.0 _ p.1 c.in_err-put_log.ensures
+    gathering_fails g.S.Sink.state before.sink now.sink before.held.now.items now.held.now.items before.done now.done (log_text c.args.run.now.taken c.args.run.now.ending) c.requires c.from_residual.result p.0 _ p.1 c.in_err-put_log.ensures
 
 pub returns-clause-writes : goal.returns-clause-writes
 returns-clause-writes g c =
@@ -18,5 +16,5 @@ returns-clause-writes g c =
     let now = c.put_log.new.sink in
     let after = c.flush.new.self in
     let flushed = c.flush.ensures in
-    flushes g.S.Sink.state before.sink now.sink before.held.now.items now.held.now.items before.done now.done (log_text (views c.args.patterns.now) (seen_run c.args.run.now)) c.requires _ c.flush.result after.sink after.held.now.items after.done
+    flushes g.S.Sink.state before.sink now.sink before.held.now.items now.held.now.items before.done now.done (log_text c.args.run.now.taken c.args.run.now.ending) c.requires _ c.flush.result after.sink after.held.now.items after.done
     c.in_ok-put_log.ensures flushed.bytes flushed.empty flushed.failed flushed.never_falls flushed.arrives

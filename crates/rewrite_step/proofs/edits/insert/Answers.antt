@@ -1,4 +1,4 @@
-use Rattle.std.proofs.Common.{◌≡◌, ℕ, List, ◌++◌, take, drop, Some, ap, ◌∙◌}
+use Rattle.std.proofs.Common.{ℕ, List, ◌++◌, take, drop, Some, ap, ◌∙◌}
 use Rattle.mlir_tree.specs.declared.row.Row.{Row}
 use Rattle.mlir_tree.specs.declared.rows.Rows.{Rows}
 use Rattle.mlir_tree.specs.Edits.{place_before, put_before, inserted}

@@ -1,4 +1,4 @@
-use Rattle.std.proofs.Common.{◌≡◌, ℕ, map}
+use Rattle.std.proofs.Common.{◌≡◌, map}
 use Rattle.std.specs.List.{range_with_len}
 use Rattle.mlir_tree.specs.declared.value.Val.TheVariants.{Res}
 use Rattle.rewrite_step.proofs.making.results_of.Given as goal

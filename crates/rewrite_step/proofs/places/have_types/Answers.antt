@@ -1,5 +1,4 @@
-use Rattle.rewrite_step.proofs.Typing.{placewise, not_as_long, one_place, no_place}
-use Rattle.rewrite_step.proofs.Concatenating.{all_found}
+use Rattle.rewrite_step.proofs.Typing.{placewise, not_as_long}
 use Rattle.rewrite_step.proofs.places.have_types.Goals as goal
 
 pub returns-then-values-types : goal.returns-then-values-types

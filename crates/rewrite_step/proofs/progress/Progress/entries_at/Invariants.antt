@@ -1,8 +1,6 @@
-use Rattle.std.proofs.Common.{List, [], ◌∷◌, map}
+use Rattle.std.proofs.Common.{[], ◌∷◌}
 use Rattle.std.specs.Option.{option_map}
-use Rattle.rewrite_model.specs.Things.{Thing}
 use Rattle.rewrite_model.specs.Making.{entry_at}
-use Rattle.row_matcher.specs.View.{thing_of}
 use Rattle.pdll_patterns.specs.View.{named_part_of}
 use Rattle.rewrite_step.specs.View.{start_of, progress_of}
 use Rattle.rewrite_step.proofs.Concatenating.{IsFound}

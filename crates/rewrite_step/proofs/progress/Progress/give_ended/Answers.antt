@@ -6,6 +6,6 @@ use Rattle.rewrite_step.specs.Worked.{given}
 use Rattle.rewrite_step.proofs.progress.Progress.give_ended.Goals as goal
 
 pub returns-in_ok-give-in-Ok : goal.returns-in_ok-give-in-Ok
-returns-in_ok-give-in-Ok c = λ s o ends.
+returns-in_ok-give-in-Ok c = λ s o q ends same.
     let is : o ≡ Ok (thing_of c.in-Ok.thing) = subst (Ends thing_of o) c.in-Ok.is ends in
-    ap (given s (progress_of c.args.self.now)) is ∙ ap Ok (sym (c.in_ok-give-in-Ok.ensures s))
+    sym same ∙ (ap (given s (progress_of c.args.self.now)) is ∙ ap Ok (sym (c.in_ok-give-in-Ok.ensures s)))

@@ -1,7 +1,6 @@
-use Rattle.std.proofs.Common.{List, [], ◌∷◌, map, arith, ap}
+use Rattle.std.proofs.Common.{[], ◌∷◌, map, arith, ap}
 use Rattle.std.specs.Option.{option_map}
 use Rattle.rewrite_model.specs.declared.run.Break.TheVariants.{Gone}
-use Rattle.rewrite_model.specs.Things.{Thing}
 use Rattle.rewrite_model.specs.Making.{part}
 use Rattle.row_matcher.specs.View.{thing_of}
 use Rattle.pdll_patterns.specs.View.{part_of}

@@ -1,6 +1,5 @@
-use Rattle.std.proofs.Common.{List, [], ◌∷◌, map}
+use Rattle.std.proofs.Common.{[], ◌∷◌, map}
 use Rattle.std.specs.Option.{option_map}
-use Rattle.rewrite_model.specs.Things.{Thing}
 use Rattle.rewrite_model.specs.Making.{part}
 use Rattle.row_matcher.specs.View.{thing_of}
 use Rattle.pdll_patterns.specs.View.{part_of}

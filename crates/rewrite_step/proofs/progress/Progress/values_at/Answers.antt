@@ -1,9 +1,8 @@
-use Rattle.std.proofs.Common.{List, [], ◌∷◌, map, arith, ap}
+use Rattle.std.proofs.Common.{arith}
 use Rattle.std.specs.Option.{option_and_then}
 use Rattle.rewrite_model.specs.declared.run.Break.TheVariants.{Gone}
 use Rattle.rewrite_model.specs.Things.{values_in}
 use Rattle.rewrite_model.specs.Making.{part}
-use Rattle.row_matcher.specs.View.{thing_of}
 use Rattle.pdll_patterns.specs.View.{part_of}
 use Rattle.rewrite_step.specs.View.{start_of, progress_of}
 use Rattle.rewrite_step.proofs.Concatenating.{none_found, one_found, one_missing, all_found}

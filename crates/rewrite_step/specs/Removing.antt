@@ -1,0 +1,15 @@
+-- Which rows go when one is removed, by what is known of their numbers.
+use Rattle.std.specs.Prelude.{ℕ, Bool, false, not, ◌||◌, ◌==◌, nat_eq, Option, unwrap_or}
+use Rattle.std.specs.Option.{option_map_or}
+use Rattle.indexmap.specs.IndexMap.{IndexMap, get}
+use Rattle.mlir_tree.specs.declared.row.Home.{Home}
+
+module _ {S : Type 0} (inner : IndexMap ℕ Bool S) where
+  abbrev pub is_inner : ℕ → Bool
+  is_inner u = unwrap_or (get nat_eq inner u) false
+
+  abbrev pub has_inner_home : Option Home → ℕ → Bool
+  has_inner_home home owner = option_map_or (λ h. (h.row == owner) || is_inner h.row) home false
+
+  abbrev pub stays : ℕ → ℕ → Bool
+  stays owner u = not ((u == owner) || is_inner u)
