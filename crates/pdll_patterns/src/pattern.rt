@@ -22,13 +22,13 @@ use crate::script::Script;
 use native_set::native::Kind;
 use pdll_expand::demand::Demand;
 use pdll_expand::expr::Expr;
+use pdll_expand::own::body_stmts;
 use pdll_expand::pattern::{Match, read_pattern};
 use pdll_syntax::file::{Decl, Meta, MetaForm, PatFile, PatternDecl};
 use pdll_syntax::name::Name;
-use pdll_syntax::stmt::{Body, Stmt, StmtForm};
+use pdll_syntax::stmt::{Stmt, StmtForm};
 use sqlite_items::Items;
 use std::alloc::{AllocError, Global};
-use std::slice::from_ref;
 
 /// A pattern, with each call replaced by the body of what it calls.
 #[derive(Drop)]
@@ -67,17 +67,6 @@ fn benefit_of(metas: &[Meta]) -> u16
         }
     }
     1
-}
-
-/// The statements of a pattern.
-fn body_stmts(body: &Body) -> &[Stmt]
-    ensures { result.now ≡ spec.body_statements body.now }
-{
-    match body {
-        Body::Braces(all, _) => all.as_slice(),
-        Body::One(one) => from_ref(one),
-        _ => &[],
-    }
 }
 
 /// What the last statement does with the root.
