@@ -2,6 +2,8 @@
 
 use crate::run;
 use crate::tests::{ROOM, ends, files, gives, words};
+use rewrite_model::run::{Ending, Run};
+use run_log::read_log;
 use rw_outside::{MemHost, MemSink};
 use std::alloc::{AllocError, Global};
 use std::test::Fail;
@@ -20,6 +22,26 @@ fn reshapes(alloc: Global) -> bool {
 #[test]
 fn a_reshape_of_a_reshape_needs_one(rt: HostRuntime) {
     assert!(rt; reshapes(rt.alloc()));
+}
+
+// Whether the run is the one step of the test above.
+fn is_one_reshape(run: &Run) -> bool {
+    match run.taken.as_slice() {
+        [step] => step.pattern == 0
+            && step.name.as_slice() == b"ReshapeReshape".as_slice()
+            && step.root == 3
+            && step.made.as_slice() == [5].as_slice()
+            && step.removed.as_slice() == [3].as_slice()
+            && run.ending == Ending::Converged,
+        _ => false,
+    }
+}
+
+#[test]
+fn its_log_is_read_back(rt: HostRuntime) {
+    let log =
+        b"pdllrw-log 1\nstep 1 pattern 0 \"ReshapeReshape\" root 3 made 5 removed 3\nend converged steps 1\n";
+    assert!(rt; matches!(read_log(rt.alloc(), log), Ok(run) if is_one_reshape(&run)));
 }
 
 fn takes_the_best(alloc: Global) -> bool {
