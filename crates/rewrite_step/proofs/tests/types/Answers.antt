@@ -1,5 +1,5 @@
-use Rattle.std.proofs.Common.{List, ◌∷◌, [], ◌++◌, ap, ◌∙◌, replicate, arith, ◌≡◌}
-use Rattle.mlir_tree.specs.Tree.{Ty, index}
+use Rattle.std.proofs.Common.{◌∷◌, [], ◌++◌, ap, ◌∙◌, replicate, arith, ◌≡◌}
+use Rattle.mlir_tree.specs.Tree.{index}
 use Rattle.rewrite_step.proofs.Sample.{one_more}
 use Rattle.rewrite_step.proofs.tests.types.Goals as goal
 
