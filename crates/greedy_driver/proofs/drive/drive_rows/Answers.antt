@@ -10,5 +10,5 @@ returns-in_err-patterns-clause-reached c = stays
 
 pub drive-requires-clause-determined : goal.drive-requires-clause-determined
 drive-requires-clause-determined c =
-    subst (λ ps. ∥ AreDetermined ps ∥₁) (sym c.in_ok-patterns.ensures ∙ ap (map pattern_of) (sym c.as_slice.ensures))
+    subst (λ ps. ∥ AreDetermined ps ∥₁) (sym c.in_ok-patterns.ensures.exact ∙ ap (map pattern_of) (sym c.as_slice.ensures))
     (∥∥₁_map c.args.typed.now.accepted (λ a. c.accepted_files_are_determined.ensures c.args.typed.now.file a))
