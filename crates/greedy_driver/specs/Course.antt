@@ -1,6 +1,7 @@
 -- Runs as they are told, and one turn of a run.
 use Rattle.std.specs.Prelude.{◌≡◌, ℕ, ◌<◌, List, ◌++◌, Ok}
 use Rattle.mlir_tree.specs.declared.rows.Rows.{Rows}
+use Rattle.mlir_resolve.specs.Indexing.{Indexes}
 use Rattle.rewrite_model.specs.declared.run.Hit.{Hit}
 use Rattle.rewrite_model.specs.declared.run.Run.{Run}
 use Rattle.rewrite_model.specs.Taken.{Taken}
@@ -26,10 +27,10 @@ pub record Goes (ps : List Pattern) (m n : Rows) (t : Taken) : Type 0 where
   pub steps : step pattern given hit.row m ≡ Ok n
   pub told : t ≡ taken pattern hit m n
 
--- With so many steps left the run ends here, or a step is taken.
+-- With so many steps left the run ends here, or a step is taken and the places of the rows behind it are known.
 abbrev pub IsTurn : List Pattern → ℕ → Rows → Rows → Turn → Type 0
 IsTurn ps left m n (Ended e) = (n ≡ m) × Runs ps left m (ended e m)
-IsTurn ps left m n (Took t) = (0 < left) × Goes ps m n t
+IsTurn ps left m n (Took t index) = (0 < left) × (Goes ps m n t × Indexes index n.rows)
 
 -- These steps before a course.
 abbrev pub behind : List Taken → Course → Course

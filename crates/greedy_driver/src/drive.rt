@@ -8,7 +8,8 @@ ghost use Rattle.rewrite_model.specs.Running.{Runs, Reaches};
 ghost use Rattle.pdll_patterns.specs.View.{pattern_of};
 ghost use Rattle.greedy_driver.specs.Course.{course_of};
 
-use crate::turn::{Turn, go_on};
+use crate::turn::{Turn, go_on, no_rows};
+use mlir_resolve::index::RowIndex;
 use mlir_tree::rows::Rows;
 use pdll_patterns::pattern::{Pattern, patterns};
 use pdll_types::laws::accepted_files_are_determined;
@@ -30,14 +31,17 @@ fn drive(
     ensures reached { Reaches (map pattern_of patterns.now) bound rows.old rows.new }
     ensures well_formed { IsWellFormed rows.new }
 {
+    let mut spare = no_rows(alloc);
+    let mut index = RowIndex::new(alloc, rows)?;
     let mut taken = Items::new(alloc);
     let mut left = bound;
     loop {
-        match go_on(alloc, rows, patterns, left)? {
+        match go_on(alloc, rows, &index, &mut spare, patterns, left)? {
             Turn::Ended(ending) => return Ok(Run { taken, ending }),
-            Turn::Took(told) => {
+            Turn::Took(told, later) => {
                 taken.push(told)?;
                 left -= 1;
+                index = later;
             }
         }
     }

@@ -6,3 +6,4 @@ pub mod next;
 pub mod turn;
 
 pub use drive::drive_rows;
+pub use rewrite_model::run::{Ending, Run, StepRec};

@@ -3,6 +3,7 @@
 ghost use Rattle.std.specs.Prelude.{◌≡◌, ◌<◌, ◌∷◌, length, map, slice_get, IfOk, Ok, Some, OnErr};
 ghost use Rattle.mlir_tree.specs.WellFormed.{IsWellFormed};
 ghost use Rattle.mlir_tree.specs.declared.refusal.Refusal.TheVariants.{Fault};
+ghost use Rattle.mlir_resolve.specs.Indexing.{Indexes};
 ghost use Rattle.rewrite_model.specs.Determined.{AreDetermined};
 ghost use Rattle.rewrite_model.specs.Step.{step};
 ghost use Rattle.rewrite_model.specs.Running.{taken, ending_by, Reaches};
@@ -19,19 +20,21 @@ use mlir_tree::rows::Rows;
 use pdll_patterns::pattern::Pattern;
 use rewrite_model::laws::{numbers_rise, steps_keep_well_formed};
 use rewrite_model::run::{BoundKind, Broken, Ending, Hit, StepRec};
+use rewrite_step::refresh::refresh;
 use rewrite_step::step::{made_numbers, removed_numbers, step};
 use rewrite_step::stop::Stop;
 use row_matcher::thing::Thing;
 use sqlite_items::Items;
 use std::alloc::{AllocError, Global};
+use std::mem::replace;
 
 /// What a turn of the run comes to.
 #[derive(Drop)]
 pub enum Turn {
     /// The run is over.
     Ended(Ending),
-    /// A step was taken.
-    Took(StepRec),
+    /// A step was taken, and behind it the rows stand at these places.
+    Took(StepRec, RowIndex),
 }
 
 /// How a run ends whose next step is stopped.
@@ -71,29 +74,50 @@ fn told(
     })
 }
 
-/// Takes a step. Where it can't be taken, the module stays as it is.
+/// A module without rows.
+pub fn no_rows(alloc: Global) -> Rows {
+    Rows {
+        rows: Items::new(alloc),
+        next: 0,
+    }
+}
+
+/// A copy of the module, which is made of the spare one.
+fn copy_in(alloc: Global, spare: &mut Rows, rows: &Rows) -> Result<Rows, AllocError>
+    ensures { IfOk result (λ copy. copy ≡ rows.now) }
+{
+    refresh(alloc, spare, rows)?;
+    Ok(replace(spare, no_rows(alloc)))
+}
+
+/// Takes a step, in the spare module, which is the module before it from then on. Where it can't be taken, the module stays
+/// as it is.
 fn advance(
     alloc: Global,
     rows: &mut Rows,
+    spare: &mut Rows,
     pattern: &Pattern<'_>,
     hit: Hit,
     given: &[Thing],
-) -> Result<StepRec, Refusal<Stop>>
+) -> Result<(StepRec, RowIndex), Refusal<Stop>>
     requires { IsWellFormed rows.old }
     ensures steps { IfOk result (λ t. step (pattern_of pattern.now) (map thing_of given.now) hit.row rows.old ≡ Ok rows.new) }
-    ensures told { IfOk result (λ t. t ≡ taken (pattern_of pattern.now) hit rows.old rows.new) }
+    ensures told { IfOk result (λ t. t.0 ≡ taken (pattern_of pattern.now) hit rows.old rows.new) }
+    ensures index { IfOk result (λ t. Indexes t.1 rows.new.rows) }
     ensures stops { (s : _) → result ≡ Err (Fault s) → step (pattern_of pattern.now) (map thing_of given.now) hit.row rows.old ≡ Err (stop_of s) }
     ensures stays { OnErr result (rows.new ≡ rows.old) }
     ensures well_formed { IsWellFormed rows.new }
 {
-    let after = match step(alloc, rows, given, hit.row, pattern.actions.as_slice()) {
+    let copy = copy_in(alloc, spare, rows)?;
+    let actions = pattern.actions.as_slice();
+    let (after, index) = match step(alloc, rows, copy, given, hit.row, actions) {
         Err(stop) => return Err(stop),
-        Ok(after) => after,
+        Ok(taken) => taken,
     };
     let told = told(alloc, pattern, hit, rows, &after)?;
     steps_keep_well_formed();
-    *rows = after;
-    Ok(told)
+    *spare = replace(rows, after);
+    Ok((told, index))
 }
 
 /// The place of a pattern as a number.
@@ -110,19 +134,21 @@ fn number_of(at: usize) -> Result<u32, AllocError>
 fn locate(
     alloc: Global,
     rows: &Rows,
+    index: &RowIndex,
     patterns: &[Pattern<'_>],
 ) -> Result<Option<(u32, Found)>, AllocError>
-    requires { ∥ AreDetermined (map pattern_of patterns.now) ∥₁ }
+    requires index { Indexes index.now rows.now.rows }
+    requires determined { ∥ AreDetermined (map pattern_of patterns.now) ∥₁ }
     ensures { IfOk result (λ o. IsFirst (map pattern_of patterns.now) rows.now.rows o) }
 {
-    let index = RowIndex::new(alloc, rows)?;
-    next(alloc, rows.rows.as_slice(), &index, patterns)
+    next(alloc, rows.rows.as_slice(), index, patterns)
 }
 
 /// Takes the step that is next, where steps are left.
 fn take(
     alloc: Global,
     rows: &mut Rows,
+    spare: &mut Rows,
     patterns: &[Pattern<'_>],
     left: u32,
     row: u32,
@@ -144,31 +170,36 @@ fn take(
     match advance(
         alloc,
         rows,
+        spare,
         &patterns[found.at],
         hit,
         found.given.as_slice(),
     ) {
-        Ok(told) => Ok(Turn::Took(told)),
+        Ok((told, index)) => Ok(Turn::Took(told, index)),
         Err(Refusal::Fault(stop)) => Ok(Turn::Ended(ending_by(hit, stop))),
         Err(Refusal::NoMemory) => Err(AllocError),
     }
 }
 
-/// One turn of the run, where so many steps are left.
+/// One turn of the run, where so many steps are left. What the spare module holds doesn't matter. It takes least where
+/// it is the module of the turn before.
 pub fn go_on(
     alloc: Global,
     rows: &mut Rows,
+    index: &RowIndex,
+    spare: &mut Rows,
     patterns: &[Pattern<'_>],
     left: u32,
 ) -> Result<Turn, AllocError>
     requires well_formed { IsWellFormed rows.old }
+    requires index { Indexes index.now rows.old.rows }
     requires determined { ∥ AreDetermined (map pattern_of patterns.now) ∥₁ }
     ensures turn { IfOk result (λ t. IsTurn (map pattern_of patterns.now) left rows.old rows.new t) }
     ensures reached { Reaches (map pattern_of patterns.now) left rows.old rows.new }
     ensures well_formed { IsWellFormed rows.new }
 {
-    match locate(alloc, rows, patterns)? {
+    match locate(alloc, rows, index, patterns)? {
         None => Ok(Turn::Ended(Ending::Converged)),
-        Some((row, found)) => take(alloc, rows, patterns, left, row, &found),
+        Some((row, found)) => take(alloc, rows, spare, patterns, left, row, &found),
     }
 }

@@ -20,13 +20,14 @@ use Rattle.mlir_parse.specs.declared.fault.ModFault.{ModFault}
 use Rattle.mlir_parse.specs.declared.fault.ModKind.{ModKind}
 use Rattle.mlir_parse.specs.declared.fault.ModKind.TheVariants as mod_kinds
 use Rattle.mlir_tree.specs.declared.rows.Rows.{Rows}
+use Rattle.mlir_tree.specs.WellFormed.{IsWellFormed}
 use Rattle.mlir_resolve.specs.Resolving.{resolved}
 use Rattle.mlir_print.specs.ModuleText.{module_text}
 use Rattle.rewrite_model.specs.declared.run.Hit.{Hit}
 use Rattle.rewrite_model.specs.declared.run.Ending.{Ending}
 use Rattle.rewrite_model.specs.declared.run.Ending.TheVariants as endings
 use Rattle.rewrite_model.specs.Expanding.{patterns}
-use Rattle.rewrite_model.specs.Running.{Course, Runs}
+use Rattle.rewrite_model.specs.Running.{Course, Runs, Reaches}
 use Rattle.rewrite_model.specs.LogText.{log_text}
 use Rattle.command_line.specs.Command.{command_of}
 use Rattle.pdllrw.specs.declared.status.Status.{Status}
@@ -135,6 +136,8 @@ pub record Rewrites (files : List ℕ → Option (List ℕ)) (words : List (List
   pub is_module : IfSome (files command.module_file) (AcceptsModule rows)
   pub course : Course
   pub runs : Runs (patterns file) command.bound rows course
+  -- each module between is well-formed, the first and the last one too
+  pub well_formed : (m : Rows) → Reaches (patterns file) command.bound rows m → IsWellFormed m
   pub ends : course.ending ≡ ending
   pub out_is : out ≡ module_text course.rows.rows
   pub log_is : log ≡ log_text course.taken course.ending

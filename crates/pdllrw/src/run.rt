@@ -21,6 +21,7 @@ use mlir_parse::fault::ModKind;
 use mlir_print::{Numbers, number, print_rows};
 use mlir_tree::rows::Rows;
 use pdll_syntax::fault::PatKind;
+use rewrite_model::laws::runs_keep_well_formed;
 use rewrite_model::run::{Ending, Run};
 use run_log::put_log;
 use rw_outside::{BufferedSink, Failed, Host, Sink, put_all};
@@ -220,6 +221,8 @@ pub fn run<H: Host, S: Sink, G: Sink>(
     let Ok(run) = drive_rows(alloc, &mut rows, &typed, command.bound) else {
         return Status::NoMemory;
     };
+    // From the well-formed module that was read, the run leads through well-formed ones.
+    runs_keep_well_formed();
     // All that writing needs is made before the first byte.
     let Ok(numbers) = number(alloc, &rows) else {
         return Status::NoMemory;

@@ -4,6 +4,7 @@ pub mod Typing
 pub mod Concatenating
 pub mod Inside
 pub mod Removing
+pub mod Substituting
 pub mod Moving
 pub mod Sorting
 pub mod Outcomes

@@ -25,17 +25,17 @@ all_done p a root m rs q xs are is same =
     let from = sym is in
     λ i. act_all (start_with (rows i) a root) (from i) (same i)
 
-pub step_stops : (p : Pattern) (a : List Thing) (root : ℕ) (m : Rows) (rs : List Row) (q n : Progress) (xs : List Action) (e : Refusal StopNode) → rs ≡ m.rows → q ≡ begun m → p.actions ≡ xs
-    → Ends (λ (u : Unit {0}). n) (act_all (start_with rs a root) q xs) (Err e) → Ends (λ (m : Rows). m) (step p a root m) (Err e)
+pub step_stops : {A : Type 0} (view : A → Rows) (p : Pattern) (a : List Thing) (root : ℕ) (m : Rows) (rs : List Row) (q n : Progress) (xs : List Action) (e : Refusal StopNode) → rs ≡ m.rows → q ≡ begun m → p.actions ≡ xs
+    → Ends (λ (u : Unit {0}). n) (act_all (start_with rs a root) q xs) (Err e) → Ends view (step p a root m) (Err e)
 unfolding step
-step_stops p a root m rs q n xs (Fault s) are is same stops = ap (λ o. o >>= (λ q. accepted q.now (bad_use q.now.rows))) (all_done p a root m rs q xs are is same ∙ stops)
-step_stops p a root m rs q n xs NoMemory are is same stops = tt
+step_stops view p a root m rs q n xs (Fault s) are is same stops = ap (λ o. o >>= (λ q. accepted q.now (bad_use q.now.rows))) (all_done p a root m rs q xs are is same ∙ stops)
+step_stops view p a root m rs q n xs NoMemory are is same stops = tt
 
-pub accepted_after : (p : Pattern) (a : List Thing) (root : ℕ) (m : Rows) (rs : List Row) (q n : Progress) (xs : List Action) (r : Result Rows (Refusal StopNode)) → rs ≡ m.rows → q ≡ begun m
-    → p.actions ≡ xs → act_all (start_with rs a root) q xs ≡ Ok n → Ends (λ (m : Rows). m) (accepted n.now (bad_use n.now.rows)) r → Ends (λ (m : Rows). m) (step p a root m) r
+pub accepted_after : {A : Type 0} (view : A → Rows) (p : Pattern) (a : List Thing) (root : ℕ) (m : Rows) (rs : List Row) (q n : Progress) (xs : List Action) (r : Result A (Refusal StopNode)) → rs ≡ m.rows → q ≡ begun m
+    → p.actions ≡ xs → act_all (start_with rs a root) q xs ≡ Ok n → Ends view (accepted n.now (bad_use n.now.rows)) r → Ends view (step p a root m) r
 unfolding step
-accepted_after p a root m rs q n xs r are is same done ends =
-    subst (λ (o : Outcome Rows). Ends (λ (m : Rows). m) o r)
+accepted_after view p a root m rs q n xs r are is same done ends =
+    subst (λ (o : Outcome Rows). Ends view o r)
     (sym (ap (λ (o : Outcome Progress). o >>= (λ q. accepted q.now (bad_use q.now.rows))) (all_done p a root m rs q xs are is same ∙ done))) ends
 
 pub still_laid_out : RewritesKeepLayout → (a : List Thing) (root : ℕ) (m : Rows) (rs : List Row) (q n : Progress) (xs : List Action) → IsLaidOut m → rs ≡ m.rows → q ≡ begun m

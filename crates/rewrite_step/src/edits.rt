@@ -1,10 +1,12 @@
 //! The edits of the rows of a module.
 
-ghost use Rattle.std.specs.Prelude.{◌≡◌, ◌≤◌, ◌+◌, ◌∷◌, ◌++◌, [], ℕ, max, map, filter, position, reverse, length, slice_index_or, Some, IfOk, OnOk};
+ghost use Rattle.std.specs.Prelude.{◌≡◌, ◌==◌, ◌<◌, ◌≤◌, ◌+◌, ◌∷◌, ◌++◌, [], ℕ, not, max, map, filter, position, reverse, length, take, drop, slice_get, slice_set, slice_index_or, Some, IfOk, OnOk};
+ghost use Rattle.mlir_tree.specs.declared.row.Row.{Row as RowOf};
 ghost use Rattle.mlir_tree.specs.Module as rows_of;
 ghost use Rattle.mlir_tree.specs.Edits.{removed};
 ghost use Rattle.mlir_tree.specs.Edits as spec;
-ghost use Rattle.rewrite_step.specs.Removing.{is_inner, has_inner_home, stays};
+ghost use Rattle.rewrite_step.specs.Removing.{is_inner, has_inner_home, stays, stands_in, has_inner};
+ghost use Rattle.rewrite_step.specs.Substituting.{is_replaced, uses_any};
 
 use crate::places::place_of;
 use indexmap::IndexMap;
@@ -82,14 +84,63 @@ fn move_back(turned: &mut RowList, rows: &mut RowList) -> Result<(), AllocError>
     Ok(())
 }
 
-/// Removes a row with all rows inside it (Pattern Rewriting guide, "eraseOp"). Where memory is out, nothing is said of the rows.
-pub fn remove(alloc: Global, rows: &mut Rows, owner: u32) -> Result<(), AllocError>
+// Removes a row with all rows inside it. Where memory is out, nothing is said of the rows.
+fn remove_with_inner(alloc: Global, rows: &mut Rows, owner: u32) -> Result<(), AllocError>
     ensures { OnOk result (rows.new ≡ removed owner rows.old) }
 {
     let inner = inner_rows(alloc, rows.rows.as_slice(), owner)?;
     let mut kept = Items::new(alloc);
     move_kept(&mut rows.rows, &inner, owner, &mut kept)?;
     move_back(&mut kept, &mut rows.rows)?;
+    Ok(())
+}
+
+// Whether this home is a region of the row.
+fn stands_in(home: Option<Home>, owner: u32) -> bool
+    ensures { result ≡ stands_in owner home }
+{
+    match home {
+        None => false,
+        Some(home) => home.row == owner,
+    }
+}
+
+// Whether some row stands in a region of the row.
+fn has_inner(rows: &[Row], owner: u32) -> bool
+    ensures { result ≡ has_inner owner rows.now }
+{
+    rows.iter().any(|row| stands_in(row.home, owner))
+}
+
+// Removes the row at a place, where it has this number.
+fn remove_at(rows: &mut RowList, at: usize, owner: u32)
+    requires { at < length rows.old }
+    ensures { rows.new ≡ take at rows.old ++ (filter (λ r. not (r.id == owner)) (take 1 (drop at rows.old)) ++ drop (at + 1) rows.old) }
+{
+    if rows.as_slice()[at].id == owner {
+        drop(rows.remove(at));
+    }
+}
+
+// Removes the rows of this number, the last first.
+fn remove_rows(rows: &mut RowList, owner: u32)
+    ensures { rows.new ≡ filter (λ r. not (r.id == owner)) rows.old }
+{
+    let mut at = rows.len();
+    while at > 0 {
+        at -= 1;
+        remove_at(rows, at, owner);
+    }
+}
+
+/// Removes a row with all rows inside it (Pattern Rewriting guide, "eraseOp"). Where memory is out, nothing is said of the rows.
+pub fn remove(alloc: Global, rows: &mut Rows, owner: u32) -> Result<(), AllocError>
+    ensures { OnOk result (rows.new ≡ removed owner rows.old) }
+{
+    if has_inner(rows.rows.as_slice(), owner) {
+        return remove_with_inner(alloc, rows, owner);
+    }
+    remove_rows(&mut rows.rows, owner);
     Ok(())
 }
 
@@ -139,19 +190,60 @@ fn substitute_values(values: &mut ValList, from: &[Val], to: &[Val])
     }
 }
 
-// Moves rows to another list, the last first, with the values put in.
-fn move_substituted(
+// Whether something stands for the value.
+fn is_replaced(from: &[Val], value: Val) -> bool
+    ensures { result ≡ is_replaced from.now value }
+{
+    place_in(from, value).is_some()
+}
+
+// Whether something stands for one of the operands.
+fn uses_any(operands: &[Val], from: &[Val]) -> bool
+    ensures { result ≡ uses_any from.now operands.now }
+{
+    operands.iter().any(|value| is_replaced(from, *value))
+}
+
+// An equal row, but with the values put into its operands.
+fn substituted_row(alloc: Global, row: &Row, from: &[Val], to: &[Val]) -> Result<Row, AllocError>
+    ensures { IfOk result (λ r. r ≡ spec.substituted_row from.now to.now row.now) }
+{
+    let mut substituted = row.copy(alloc)?;
+    substitute_values(&mut substituted.operands, from, to);
+    Ok(substituted)
+}
+
+// Puts the values into the operands of the row at a place.
+fn substitute_at(
+    alloc: Global,
+    rows: &mut RowList,
+    at: usize,
+    from: &[Val],
+    to: &[Val],
+) -> Result<(), AllocError>
+    requires { at < length rows.old }
+    ensures { OnOk result ((r : RowOf) → slice_get rows.old at ≡ Some r → rows.new ≡ slice_set rows.old at (spec.substituted_row from.now to.now r)) }
+{
+    let row = &rows.as_slice()[at];
+    if !uses_any(row.operands.as_slice(), from) {
+        return Ok(());
+    }
+    let substituted = substituted_row(alloc, row, from, to)?;
+    rows.set(at, substituted);
+    Ok(())
+}
+
+// Puts the values into the operands of all rows.
+fn substitute_rows(
+    alloc: Global,
     rows: &mut RowList,
     from: &[Val],
     to: &[Val],
-    turned: &mut RowList,
 ) -> Result<(), AllocError>
-    ensures none { OnOk result (rows.new ≡ []) }
-    ensures turned { OnOk result (turned.new ≡ turned.old ++ reverse (map (spec.substituted_row from.now to.now) rows.old)) }
+    ensures { OnOk result (rows.new ≡ map (spec.substituted_row from.now to.now) rows.old) }
 {
-    while let Some(mut row) = rows.pop() {
-        substitute_values(&mut row.operands, from, to);
-        turned.push(row)?;
+    for at in 0..rows.len() {
+        substitute_at(alloc, rows, at, from, to)?;
     }
     Ok(())
 }
@@ -166,10 +258,7 @@ pub fn substitute(
 ) -> Result<(), AllocError>
     ensures { OnOk result (rows.new ≡ spec.substituted from.now to.now rows.old) }
 {
-    let mut turned = Items::new(alloc);
-    move_substituted(&mut rows.rows, from, to, &mut turned)?;
-    move_back(&mut turned, &mut rows.rows)?;
-    Ok(())
+    substitute_rows(alloc, &mut rows.rows, from, to)
 }
 
 // Where a row goes that is put before another.
@@ -183,7 +272,8 @@ fn place_before(rows: &[Row], other: u32) -> usize
     }
 }
 
-fn one_row(alloc: Global, row: Row) -> Result<RowList, AllocError>
+/// A list of one row.
+pub fn one_row(alloc: Global, row: Row) -> Result<RowList, AllocError>
     ensures { IfOk result (λ rows. rows ≡ row ∷ []) }
 {
     let mut rows = Items::new(alloc);

@@ -10,6 +10,7 @@ pub mod making;
 pub mod natives;
 pub mod places;
 pub mod progress;
+pub mod refresh;
 pub mod replacing;
 pub mod step;
 pub mod stop;

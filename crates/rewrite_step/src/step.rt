@@ -3,6 +3,7 @@
 ghost use Rattle.std.specs.Prelude.{◌≡◌, [], map, filter, IfOk};
 ghost use Rattle.std.specs.List.{range_with_len};
 ghost use Rattle.mlir_resolve.specs.BadUses.{bad_use};
+ghost use Rattle.mlir_resolve.specs.Indexing.{Indexes};
 ghost use Rattle.rewrite_model.specs.Laws.{IsLaidOut};
 ghost use Rattle.rewrite_model.specs.Pattern.{Pattern};
 ghost use Rattle.rewrite_model.specs.Making.{all_slots};
@@ -19,7 +20,7 @@ use mlir_resolve::index::RowIndex;
 use mlir_resolve::well_formed_by;
 use mlir_tree::refusal::Refusal;
 use mlir_tree::row::{IdList, Row};
-use mlir_tree::rows::{Rows, copy_rows};
+use mlir_tree::rows::Rows;
 use pdll_patterns::action::Action;
 use rewrite_model::laws::rewrites_keep_layout;
 use rewrite_model::run::Break;
@@ -42,46 +43,50 @@ fn all_slots(rows: &[Row], next: u32) -> usize
     slots
 }
 
-// How far a step is before its first action.
-fn begin(alloc: Global, rows: &Rows) -> Result<Progress, AllocError>
+// How far a step is before its first action, in a copy of the rows.
+fn begin(alloc: Global, rows: &Rows, copy: Rows) -> Progress
     requires layout { IsLaidOut rows.now }
-    ensures { IfOk result (λ p. progress_of p ≡ spec.begun rows.now) }
+    requires same { copy ≡ rows.now }
+    ensures { progress_of result ≡ spec.begun rows.now }
 {
-    let next = rows.next;
     let all = rows.rows.as_slice();
-    let slots = all_slots(all, next);
-    let copied = copy_rows(alloc, all)?;
-    Ok(Progress {
-        current: Rows { rows: copied, next },
+    let slots = all_slots(all, rows.next);
+    Progress {
+        current: copy,
         made: Items::new(alloc),
         rows: all.len(),
         slots,
-    })
+    }
 }
 
-// The rows, where each operand exists and is visible.
-fn accepted(alloc: Global, rows: Rows) -> Result<Rows, Refusal<Stop>>
+// The rows and their places, where each operand exists and is visible.
+fn accepted(alloc: Global, rows: Rows) -> Result<(Rows, RowIndex), Refusal<Stop>>
     requires layout { IsLaidOut rows }
-    ensures { Ends (λ m. m) (spec.accepted rows (bad_use rows.rows)) result }
+    ensures rows { Ends (λ it. it.0) (spec.accepted rows (bad_use rows.rows)) result }
+    ensures index { IfOk result (λ it. Indexes it.1 it.0.rows) }
 {
     let index = RowIndex::new(alloc, &rows)?;
     match well_formed_by(&rows, &index) {
-        None => Ok(rows),
+        None => Ok((rows, index)),
         Some(found) => Err(breaks(Break::BadUse(found.row, found.place))),
     }
 }
 
-/// The rows after the actions of a pattern under an assignment, or what stops them: the first of the actions that can't be
-/// done or would make too much, or then the first operand that doesn't exist or isn't visible. The rows stay as they were.
+/// The rows after the actions of a pattern under an assignment, with their places, or what stops them: the first of the
+/// actions that can't be done or would make too much, or then the first operand that doesn't exist or isn't visible. The
+/// actions are done in `copy`, a copy of the rows, and the rows stay as they were.
 pub fn step(
     alloc: Global,
     rows: &Rows,
+    copy: Rows,
     given: &[Thing],
     root: u32,
     actions: &[Action<'_>],
-) -> Result<Rows, Refusal<Stop>>
+) -> Result<(Rows, RowIndex), Refusal<Stop>>
     requires layout { IsLaidOut rows.now }
-    ensures { (p : Pattern) → p.actions ≡ map action_of actions.now → Ends (λ m. m) (spec.step p (map thing_of given.now) root rows.now) result }
+    requires same { copy ≡ rows.now }
+    ensures rows { (p : Pattern) → p.actions ≡ map action_of actions.now → Ends (λ it. it.0) (spec.step p (map thing_of given.now) root rows.now) result }
+    ensures index { IfOk result (λ it. Indexes it.1 it.0.rows) }
 {
     rewrites_keep_layout();
     let start = Start {
@@ -89,7 +94,7 @@ pub fn step(
         given,
         root,
     };
-    let mut progress = begin(alloc, rows)?;
+    let mut progress = begin(alloc, rows, copy);
     if let Err(e) = progress.act_all(alloc, &start, actions) {
         return Err(e);
     }

@@ -13,7 +13,9 @@ ghost use Rattle.std.specs.Prelude.{◌≡◌, ◌∷◌, ◌++◌, [], Some, re
 ghost use Rattle.mlir_tree.specs.Tree as tree;
 ghost use Rattle.rewrite_model.specs.Laws.{IsLaidOut};
 
+use crate::edits::{remove, substitute};
 use crate::progress::{Progress, Start};
+use crate::refresh::refresh;
 use crate::step::{made_numbers, removed_numbers, step};
 use crate::stop::Stop;
 use mlir_tree::attr::{Attr, AttrNode};
@@ -165,9 +167,11 @@ fn a_reshape_of_a_reshape_is_replaced(rt: HostRuntime) -> Result<(), Fail> {
     actions.push(Action::Makes(new_reshape(alloc)?))?;
     actions.push(Action::Makes(Making::ResultsOf(Part::Made(0))))?;
     actions.push(Action::Replaces(matched(2), parts(alloc, &[Part::Made(1)])?))?;
-    match step(alloc, &before, &given, 3, actions.as_slice()) {
+    let copy = before.copy(alloc)?;
+    match step(alloc, &before, copy, &given, 3, actions.as_slice()) {
         Err(_) => assert!(rt; false),
-        Ok(after) => {
+        Ok((after, index)) => {
+            assert!(rt; index.find(4) == Some(4));
             assert!(rt; after.rows.len() == 6 && after.next == 7);
             assert!(rt; has_operands(&after, 3, &[Val::Res(1, 0)]));
             assert!(rt; has_operands(&after, 4, &[Val::Res(6, 0), Val::Res(1, 1)]));
@@ -185,7 +189,8 @@ fn a_use_of_the_replaced_result_is_left(rt: HostRuntime) -> Result<(), Fail> {
     let given = [Thing::Value(Val::Res(3, 0)), Thing::Op(3)];
     let mut actions = Items::new(alloc);
     actions.push(Action::Replaces(matched(1), parts(alloc, &[matched(0)])?))?;
-    let answer = step(alloc, &before, &given, 3, actions.as_slice());
+    let copy = before.copy(alloc)?;
+    let answer = step(alloc, &before, copy, &given, 3, actions.as_slice());
     assert!(rt; is_stopped(&answer, Break::BadUse(4, 0)));
     Ok(())
 }
@@ -231,6 +236,27 @@ fn an_operation_goes_with_those_inside(rt: HostRuntime) -> Result<(), Fail> {
     assert!(rt; is_stopped(&again, Break::Gone));
     let top = p.erase(alloc, &start, matched(1));
     assert!(rt; is_stopped(&top, Break::Top));
+    Ok(())
+}
+
+#[test]
+fn a_copy_is_brought_up_to_date(rt: HostRuntime) -> Result<(), Fail> {
+    let alloc = rt.alloc();
+    let mut one = module(alloc)?;
+    let mut other = module(alloc)?;
+    remove(alloc, &mut one, 2)?;
+    substitute(alloc, &mut one, &[Val::Res(3, 0)], &[Val::Res(1, 0)])?;
+    refresh(alloc, &mut other, &one)?;
+    assert!(rt; other.equal(&one));
+    let whole = module(alloc)?;
+    refresh(alloc, &mut other, &whole)?;
+    assert!(rt; other.equal(&whole));
+    let mut empty = Rows {
+        rows: Items::new(alloc),
+        next: 0,
+    };
+    refresh(alloc, &mut empty, &whole)?;
+    assert!(rt; empty.equal(&whole));
     Ok(())
 }
 

@@ -1,6 +1,7 @@
 use Rattle.std.proofs.Common.{map}
 use Rattle.mlir_tree.specs.declared.rows.Rows.{Rows}
 use Rattle.mlir_tree.specs.WellFormed.{IsWellFormed}
+use Rattle.mlir_resolve.specs.Indexing.{Indexes}
 use Rattle.rewrite_model.specs.Running.{Course, Runs, Reaches}
 use Rattle.pdll_patterns.specs.View.{pattern_of}
 use Rattle.greedy_driver.specs.Course.{behind}
@@ -9,6 +10,7 @@ use Rattle.greedy_driver.proofs.drive.drive.Given as goal
 abbrev pub invariant-loop-taken : goal.invariant-loop-taken
 invariant-loop-taken l = record {
   well_formed : IsWellFormed l.rows;
+  index : Indexes l.index l.rows.rows;
   runs : (c : Course) → Runs (map pattern_of l.patterns) l.left l.rows c → Runs (map pattern_of l.patterns) l.fn.bound l.fn.rows (behind l.taken c);
   reaches : (k : Rows) → Reaches (map pattern_of l.patterns) l.left l.rows k → Reaches (map pattern_of l.patterns) l.fn.bound l.fn.rows k;
 }

@@ -26,12 +26,15 @@ returns-in-Ok-clause-turn c =
     let q = c.index-patterns-found.result in
     let f = c.args.found.now in (
       omega (arith, c.if-left-eq0.false),
-      goes (map pattern_of c.args.patterns.now) c.args.rows.now c.advance.new.rows c.in_ok-number_of.field-0 c.args.row (pattern_of q) f c.in-Ok.told
-          c.in_ok-number_of.ensures
-          (at_place c.args.patterns.now f.at q (inside c.args.patterns.now f.at c.requires.found.0 c.requires.found.2.declared) ∙ ap (λ x. Some (pattern_of x)) (sym c.index-patterns-found.is))
-          c.requires.found
-          (subst (λ g. step (pattern_of q) (map thing_of g) c.args.row c.args.rows.now ≡ Ok c.advance.new.rows) c.as_slice.ensures c.in-Ok.ensures.steps)
-          c.in-Ok.ensures.told,
+      (
+        goes (map pattern_of c.args.patterns.now) c.args.rows.now c.advance.new.rows c.in_ok-number_of.field-0 c.args.row (pattern_of q) f c.in-Ok.told
+            c.in_ok-number_of.ensures
+            (at_place c.args.patterns.now f.at q (inside c.args.patterns.now f.at c.requires.found.0 c.requires.found.2.declared) ∙ ap (λ x. Some (pattern_of x)) (sym c.index-patterns-found.is))
+            c.requires.found
+            (subst (λ g. step (pattern_of q) (map thing_of g) c.args.row c.args.rows.now ≡ Ok c.advance.new.rows) c.as_slice.ensures c.in-Ok.ensures.steps)
+            c.in-Ok.ensures.told,
+        c.in-Ok.ensures.index,
+      ),
     )
 
 pub returns-in-Ok-clause-reached : goal.returns-in-Ok-clause-reached

@@ -2,6 +2,7 @@ use Rattle.std.proofs.Common.{◌≡◌, ℕ, List, Option, map, Err, string_byt
 use Rattle.std.specs.Prelude.{IfSome}
 use Rattle.mlir_print.specs.ModuleText.{module_text}
 use Rattle.rewrite_model.specs.LogText.{log_text}
+use Rattle.rewrite_model.specs.Expanding.{patterns}
 use Rattle.greedy_driver.specs.Course.{course_of}
 use Rattle.pdllrw.specs.Accepted.{AcceptsPatterns, AcceptsModule}
 use Rattle.pdllrw.specs.Outcome.{Command, Rewrites}
@@ -54,6 +55,7 @@ returns g c =
       is_module = is_module;
       course = course_of run left;
       runs = c.in-Ok-drive_rows.ensures.run;
+      well_formed = λ m reached. c.runs_keep_well_formed.ensures (patterns file) asked.bound rows m c.in-Ok-read_module.ensures.well_formed reached;
       ends = refl;
       out_is = refl;
       log_is = refl;
