@@ -4,7 +4,5 @@
 mod number;
 mod rewriting;
 mod simple;
-#[cfg(test)]
-mod tests;
 
 pub use rewriting::{Failure, Rewriting, command};

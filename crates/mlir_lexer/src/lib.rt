@@ -7,6 +7,3 @@ pub mod token;
 pub use body::{BodyFault, body_end};
 pub use scan::next_token;
 pub use token::{LexFault, Token, TokenKind};
-
-#[cfg(test)]
-mod tests;

@@ -9,8 +9,6 @@ pub mod fault;
 mod file;
 mod kept_text;
 mod locations;
-#[cfg(test)]
-mod module_tests;
 mod nesting;
 mod numbers;
 mod operations;
@@ -18,8 +16,6 @@ mod parse;
 mod placed;
 mod reader;
 pub mod syn;
-#[cfg(test)]
-mod tests;
 mod types;
 
 pub use dictionary::entries_are_kept;

@@ -18,8 +18,3 @@ pub use numbering::number;
 pub use numbers::Numbers;
 pub use string::{print_string, string_text};
 pub use ty::{print_ty, ty_text};
-
-#[cfg(test)]
-mod module_tests;
-#[cfg(test)]
-mod tests;

@@ -11,8 +11,6 @@ mod places;
 mod puts;
 mod scope;
 mod sight;
-#[cfg(test)]
-mod tests;
 mod visibility;
 mod walk;
 

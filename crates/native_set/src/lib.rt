@@ -5,5 +5,3 @@ pub mod arithmetic;
 pub mod laws;
 pub mod native;
 pub mod table;
-#[cfg(test)]
-mod tests;

@@ -14,6 +14,4 @@ pub mod pattern;
 pub mod scene;
 mod sight;
 mod statements;
-#[cfg(test)]
-mod tests;
 mod written;

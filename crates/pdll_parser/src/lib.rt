@@ -15,8 +15,6 @@ pub mod laws;
 mod reader;
 mod statements;
 mod terminal;
-#[cfg(test)]
-mod tests;
 
 use crate::declarations::file;
 use mlir_tree::refusal::Refusal;

@@ -18,8 +18,6 @@ mod sight;
 mod signature;
 mod statements;
 mod table;
-#[cfg(test)]
-mod tests;
 pub mod typed;
 mod uses;
 mod walk;

@@ -45,8 +45,3 @@ fn main(rt: HostRuntime) -> ExitCode {
     let status = run(alloc, &words, &mut host, &mut out, &mut log);
     ExitCode::from(status.code())
 }
-
-#[cfg(test)]
-mod runs;
-#[cfg(test)]
-mod tests;

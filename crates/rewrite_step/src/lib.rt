@@ -14,5 +14,3 @@ pub mod refresh;
 pub mod replacing;
 pub mod step;
 pub mod stop;
-#[cfg(test)]
-mod tests;

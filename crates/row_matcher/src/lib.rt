@@ -3,6 +3,4 @@
 
 pub mod matching;
 pub mod natives;
-#[cfg(test)]
-mod tests;
 pub mod thing;

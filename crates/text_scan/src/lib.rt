@@ -4,5 +4,3 @@
 pub mod bytes;
 pub mod gaps;
 pub mod strings;
-#[cfg(test)]
-mod tests;
