@@ -1,18 +1,8 @@
 //! Rewrites a module by patterns.
 #![tactic(auto)]
 
-mod laws;
-mod pieces;
-mod position;
-mod reading;
-mod run;
-mod status;
-
-pub use laws::{completes, one_run};
-pub use rewrite_model::run::{BoundKind, Break, Broken, Ending, Hit, Run, StepRec};
-pub use run::run;
+use pdllrw_command::{Status, run};
 use rw_outside::{FileHost, StreamSink};
-pub use status::Status;
 use std::alloc::AllocError;
 use std::env;
 use std::io::ErrorKind;

@@ -1,5 +1,0 @@
-pub mod Outcomes
-pub mod Completes
-pub mod Refusals
-pub mod Gathered
-pub mod Lines
