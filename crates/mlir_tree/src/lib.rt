@@ -10,6 +10,8 @@ pub mod refusal;
 pub mod row;
 pub mod rows;
 pub mod sign;
+#[cfg(test)]
+mod tests;
 pub mod text;
 pub mod ty;
 pub mod ty_keys;

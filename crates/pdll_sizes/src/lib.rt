@@ -6,5 +6,7 @@ mod expressions;
 mod size;
 mod sizes;
 mod statements;
+#[cfg(test)]
+mod tests;
 
 pub use sizes::Sizes;

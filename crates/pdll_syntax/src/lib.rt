@@ -6,3 +6,5 @@ pub mod fault;
 pub mod file;
 pub mod name;
 pub mod stmt;
+#[cfg(test)]
+mod tests;
