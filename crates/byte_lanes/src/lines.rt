@@ -1,6 +1,6 @@
 //! Line feeds.
 
-ghost use Rattle.std.specs.Prelude.{◌≡◌};
+ghost use Rattle.std.specs.Prelude.{◌≡◌, ◌≤◌, length};
 ghost use Rattle.std.specs.List.{count_by};
 ghost use Rattle.byte_lanes.specs.Bytes.{is_line_feed};
 
@@ -8,7 +8,8 @@ use crate::block::{LANES, block_lines};
 
 /// The number of line feeds.
 pub fn count_newlines(bytes: &[u8]) -> usize
-    ensures { result ≡ count_by is_line_feed bytes.now }
+    ensures value { result ≡ count_by is_line_feed bytes.now }
+    ensures within { result ≤ length bytes.now }
 {
     let mut count = 0;
     let mut at = 0;
