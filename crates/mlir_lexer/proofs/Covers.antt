@@ -4,8 +4,9 @@ use Rattle.std.specs.Prelude.{◌==◌, ◌&&◌, ◌⊎◌, slice_index}
 use Rattle.std.specs.List.{prefix_len}
 use Rattle.std.proofs.lemmas.Bool.{true≢false, ne_eqb}
 use Rattle.std.proofs.lemmas.List.{drop-drop, drop_at, get_or_at}
-use Rattle.text_scan.specs.Bytes.{AllAre, is_in, is_digit, is_hex_digit, is_word_start}
-use Rattle.text_scan.specs.declared.bytes.Class.TheVariants as class
+use Rattle.text_scan.specs.Bytes.{AllAre, is_in, is_digit, is_word_start}
+use Rattle.text_scan.specs.Hexadecimal.{is_hex_digit}
+use Rattle.byte_lanes.specs.declared.class.Class.TheVariants as class
 use Rattle.text_scan.specs.Strings.{IsString}
 use Rattle.text_scan.proofs.Runs.{prefix_len-front}
 use Rattle.text_scan.proofs.StringLaws.{string_covers}
@@ -86,7 +87,7 @@ hex_by false q m h = absurd (true≢false h)
 
 hex_long : (s : List ℕ) → hex_len s == 0 ≡ false → (digits s ≤ 1) × (2 ≤ hex_len s)
 hex_long s h =
-    let (second, most) = hex_by (slice_index s 0 == 48) (slice_index s 1 == 120) (prefix_len (is_in class.HexDigit) (drop 2 s)) h in
+    let (second, most) = hex_by (slice_index s 0 == 48) (slice_index s 1 == 120) (prefix_len is_hex_digit (drop 2 s)) h in
     (few_digits s second, most)
 
 decimal_by : (at m : ℕ) (s : List ℕ) (f : ℕ) (p q : Bool) → hex_len s == 0 ≡ q → m ≤ digits s → Covers kind.Integer at m (cond p (token kind.Float at (digits s + 1 + f)) (cond q (token kind.Integer at (digits s)) (token kind.Integer at (hex_len s))))
@@ -106,7 +107,7 @@ hex_token at m n false is some h = (let k = behind_least 2 n (omega arith) in om
 hex_covers : (at : ℕ) (xs rest : List ℕ) → AreSome is_hex_digit xs → Covers kind.Integer at (suc (suc (length xs))) (number at (48 ∷ 120 ∷ (xs ++ rest)))
 hex_covers at xs rest h =
     let (all, some) = some_first is_hex_digit xs h in
-    let n = prefix_len (is_in class.HexDigit) (xs ++ rest) in
+    let n = prefix_len is_hex_digit (xs ++ rest) in
     hex_token at (length xs) n (behind 2 n == 0) refl some (run_covers is_hex_digit xs rest all)
 
 -- floats

@@ -6,8 +6,9 @@ use Rattle.std.specs.List.{prefix_len}
 use Rattle.std.proofs.lemmas.Bool.{and_parts, true≢false, false≢true, eqb-false, cases_lt}
 use Rattle.std.proofs.lemmas.List.{drop_at, take-append-drop, drop_more, get_or_past}
 use Rattle.std.proofs.lemmas.List.Sums.{prefix_len-le-length}
-use Rattle.text_scan.specs.Bytes.{AllAre, is_in, is_digit, is_hex_digit, is_word_start}
-use Rattle.text_scan.specs.declared.bytes.Class.TheVariants as class
+use Rattle.text_scan.specs.Bytes.{AllAre, is_in, is_digit, is_word_start}
+use Rattle.text_scan.specs.Hexadecimal.{is_hex_digit}
+use Rattle.byte_lanes.specs.declared.class.Class.TheVariants as class
 use Rattle.text_scan.specs.Strings.{IsString, string_end}
 use Rattle.text_scan.proofs.Runs.{AllAre-run}
 use Rattle.text_scan.proofs.StringLaws.{string_front}
@@ -124,16 +125,16 @@ digits_begin s some =
 decimal_judged : (at : ℕ) (s : List ℕ) → 0 < digits s → Judged at s (token kind.Integer at (digits s))
 decimal_judged at s some = judged kind.Integer at (digits s) s (changed (AreSome is_digit) (HasForm kind.Integer) s (digits s) (λ xs all. inl all) (digits_begin s some))
 
-hex_digits_begin : (s : List ℕ) → 0 < prefix_len (is_in class.HexDigit) s → Begins (AreSome is_hex_digit) s (prefix_len (is_in class.HexDigit) s)
+hex_digits_begin : (s : List ℕ) → 0 < prefix_len is_hex_digit s → Begins (AreSome is_hex_digit) s (prefix_len is_hex_digit s)
 hex_digits_begin s some =
     let (front, rest, all, e, len) = run_begins is_hex_digit s in (front, rest, some_run is_hex_digit front (omega arith) all, e, len)
 
 abbrev IsHex : List ℕ → Type 0
 IsHex text = (xs : List ℕ) × AreSome is_hex_digit xs × (text ≡ 48 ∷ 120 ∷ xs)
 
-hex_tail : (t : List ℕ) → 0 < behind 2 (prefix_len (is_in class.HexDigit) t) → Begins IsHex (48 ∷ 120 ∷ t) (behind 2 (prefix_len (is_in class.HexDigit) t))
+hex_tail : (t : List ℕ) → 0 < behind 2 (prefix_len is_hex_digit t) → Begins IsHex (48 ∷ 120 ∷ t) (behind 2 (prefix_len is_hex_digit t))
 hex_tail t h =
-    let (some, is) = behind_some 2 (prefix_len (is_in class.HexDigit) t) h in
+    let (some, is) = behind_some 2 (prefix_len is_hex_digit t) h in
     let (front, rest, all, e, len) = hex_digits_begin t some in
     (48 ∷ 120 ∷ front, rest, (front, all, refl), ap (λ u. 48 ∷ 120 ∷ u) e, omega (arith, is, len))
 
@@ -145,7 +146,7 @@ hex_begins : (s : List ℕ) → 0 < hex_len s → Begins IsHex s (hex_len s)
 hex_begins [] h = absurd (omega arith)
 hex_begins (c ∷ []) h = absurd (false≢true (and_parts (c == 48) false (hex_if [] (c == 48 && false) (behind 2 0) h)).1)
 hex_begins (c ∷ d ∷ t) h =
-    let two = and_parts (c == 48) (d == 120) (hex_if t (c == 48 && d == 120) (behind 2 (prefix_len (is_in class.HexDigit) t)) h) in
+    let two = and_parts (c == 48) (d == 120) (hex_if t (c == 48 && d == 120) (behind 2 (prefix_len is_hex_digit t)) h) in
     let first = eqb-true c 48 two.0 in
     let second = eqb-true d 120 two.1 in
     let some : 0 < hex_len (48 ∷ 120 ∷ t) = subst (λ x. 0 < hex_len (x ∷ 120 ∷ t)) first (subst (λ x. 0 < hex_len (c ∷ x ∷ t)) second h) in

@@ -1,6 +1,7 @@
 -- The forms of tokens of module text.
 use Rattle.std.specs.Prelude.{◌≡◌, ℕ, Bool, ◌||◌, ◌==◌, List, [], ◌∷◌, ◌++◌, IsTrue, ◌⊎◌, codes}
-use Rattle.text_scan.specs.Bytes.{is_digit, is_hex_digit, is_word_start, is_word_byte, is_suffix_byte, AllAre}
+use Rattle.text_scan.specs.Bytes.{is_digit, is_word_start, is_word_byte, is_suffix_byte, AllAre}
+use Rattle.text_scan.specs.Hexadecimal.{is_hex_digit}
 use Rattle.text_scan.specs.Strings.{IsString}
 use Rattle.mlir_lexer.specs.declared.token.TokenKind.{TokenKind}
 use Rattle.mlir_lexer.specs.declared.token.TokenKind.TheVariants as kind

@@ -3,7 +3,8 @@ use Rattle.std.specs.Prelude.{ℕ, ◌+◌, ◌&&◌, ◌==◌, if◌then◌else
 use Rattle.std.specs.Option.{option_map_or}
 use Rattle.std.specs.List.{prefix_len}
 use Rattle.text_scan.specs.Bytes.{is_in, is_digit, is_word_start}
-use Rattle.text_scan.specs.declared.bytes.Class.TheVariants as class
+use Rattle.text_scan.specs.Hexadecimal.{is_hex_digit}
+use Rattle.byte_lanes.specs.declared.class.Class.TheVariants as class
 use Rattle.text_scan.specs.Strings.{string_end}
 use Rattle.text_scan.specs.Gaps.{gap_len}
 use Rattle.mlir_lexer.specs.Forms.{is_suffix_start, is_exponent_mark, is_sign}
@@ -45,7 +46,7 @@ fraction_len s = digits s + exponent_len (drop (digits s) s)
 -- the length of the hexadecimal number at the front, or 0
 abbrev pub hex_len : List ℕ → ℕ
 hex_len s =
-    if slice_index s 0 == 48 && slice_index s 1 == 120 then behind 2 (prefix_len (is_in class.HexDigit) (drop 2 s)) else 0
+    if slice_index s 0 == 48 && slice_index s 1 == 120 then behind 2 (prefix_len is_hex_digit (drop 2 s)) else 0
 
 abbrev pub number : ℕ → List ℕ → Outcome
 number at s =

@@ -3,6 +3,7 @@
 ghost use Rattle.std.specs.Prelude.{◌≡◌, ◌<◌, ◌≤◌, ◌+◌, length, slice_index, IfOk};
 ghost use Rattle.mlir_lexer.specs.Body.{end_of_body, opens, closer, must_close, effect_of};
 
+use text_scan::bytes::byte_at;
 use text_scan::strings::string_end;
 
 /// Why a body does not end.
@@ -47,12 +48,6 @@ pub fn closer_of(b: u8) -> u8
     ensures { result ≡ closer b }
 {
     if b == b'(' { b')' } else { b + 2 }
-}
-
-fn byte_at(bytes: &[u8], at: usize) -> u8
-    ensures { result ≡ slice_index bytes.now at }
-{
-    if at < bytes.len() { bytes[at] } else { 0 }
 }
 
 /// What a byte outside strings does, before this next byte, where the byte before is `-` or not, and this closes the

@@ -1,12 +1,12 @@
 //! Cuts the tokens.
 
-ghost use Rattle.std.specs.Prelude.{◌≡◌, ℕ, ◌+◌, ◌<◌, ◌≤◌, ◌^◌, ◌↔◌, length, drop, slice_index, IfOk, Ok, Err, ◌⊎◌};
+ghost use Rattle.std.specs.Prelude.{◌≡◌, ℕ, ◌+◌, ◌<◌, ◌≤◌, ◌^◌, ◌↔◌, length, drop, IfOk, Ok, Err, ◌⊎◌};
 ghost use Rattle.mlir_lexer.specs.Tokens.{IsToken, IsOnlyToken, IsBadByte, IsBadString};
 ghost use Rattle.mlir_lexer.specs.Scan as spec;
 ghost use Rattle.mlir_lexer.specs.Forms as form;
 
 use crate::token::{LexFault, Token, TokenKind};
-use text_scan::bytes::{Class, is_digit, is_word_start, run_len};
+use text_scan::bytes::{Class, byte_at, hex_digits, is_digit, is_word_start, run_len};
 use text_scan::gaps::gap_end;
 use text_scan::strings::string_end;
 
@@ -21,12 +21,6 @@ fn token(kind: TokenKind, at: usize, len: usize) -> Token
         start: at,
         end: at + len,
     }
-}
-
-fn byte_at(text: &[u8], at: usize) -> u8
-    ensures { result ≡ slice_index text.now at }
-{
-    if at < text.len() { text[at] } else { 0 }
 }
 
 fn is_suffix_start(b: u8) -> bool
@@ -44,7 +38,7 @@ fn digits(text: &[u8], from: usize) -> usize
 }
 
 /// The length of the longest suffix at the front, or 0.
-fn suffix_len(text: &[u8]) -> usize
+pub fn suffix_len(text: &[u8]) -> usize
     ensures value { result ≡ spec.suffix_len text.now }
     ensures within { result ≤ length text.now }
 {
@@ -111,7 +105,7 @@ fn hex_len(text: &[u8]) -> usize
     ensures within { result ≤ length text.now }
 {
     if byte_at(text, 0) == b'0' && byte_at(text, 1) == b'x' {
-        behind(2, run_len(text, 2, Class::HexDigit))
+        behind(2, hex_digits(text, 2))
     } else {
         0
     }

@@ -4,7 +4,7 @@ use Rattle.std.specs.Prelude.{◌==◌, slice_index}
 use Rattle.std.specs.Option.{option_map_or}
 use Rattle.std.specs.List.{prefix_len}
 use Rattle.text_scan.specs.Bytes.{AllAre, is_in, is_digit, is_word_start}
-use Rattle.text_scan.specs.declared.bytes.Class.TheVariants as class
+use Rattle.byte_lanes.specs.declared.class.Class.TheVariants as class
 use Rattle.text_scan.specs.Strings.{IsString}
 use Rattle.text_scan.proofs.Runs.{prefix_len-front}
 use Rattle.text_scan.proofs.StringLaws.{string_covers}

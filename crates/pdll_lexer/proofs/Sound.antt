@@ -8,7 +8,7 @@ use Rattle.std.proofs.lemmas.List.{take-append-drop}
 use Rattle.std.proofs.lemmas.List.Sums.{prefix_len-le-length}
 use Rattle.std.proofs.lemmas.Slice.Eq.{bytes_eq-Decides}
 use Rattle.text_scan.specs.Bytes.{AllAre, is_in, is_digit, is_word_start}
-use Rattle.text_scan.specs.declared.bytes.Class.TheVariants as class
+use Rattle.byte_lanes.specs.declared.class.Class.TheVariants as class
 use Rattle.text_scan.specs.Strings.{IsString, string_end}
 use Rattle.text_scan.proofs.Runs.{AllAre-run}
 use Rattle.text_scan.proofs.StringLaws.{string_front}

@@ -1,11 +1,11 @@
 //! Cuts the tokens.
 
-ghost use Rattle.std.specs.Prelude.{◌≡◌, ℕ, ◌+◌, ◌<◌, ◌≤◌, ◌^◌, ◌↔◌, length, drop, slice_index, IfOk, Ok, Err, ◌⊎◌};
+ghost use Rattle.std.specs.Prelude.{◌≡◌, ℕ, ◌+◌, ◌<◌, ◌≤◌, ◌^◌, ◌↔◌, length, drop, IfOk, Ok, Err, ◌⊎◌};
 ghost use Rattle.pdll_lexer.specs.Tokens.{IsToken, IsOnlyToken, IsBadByte, IsBadString};
 ghost use Rattle.pdll_lexer.specs.Scan as spec;
 
 use crate::token::{LexFault, Token, TokenKind};
-use text_scan::bytes::{Class, is_digit, is_word_start, run_len};
+use text_scan::bytes::{Class, byte_at, is_digit, is_word_start, run_len};
 use text_scan::gaps::gap_end;
 use text_scan::strings::string_end;
 
@@ -20,12 +20,6 @@ fn token(kind: TokenKind, at: usize, len: usize) -> Token
         start: at,
         end: at + len,
     }
-}
-
-fn byte_at(text: &[u8], at: usize) -> u8
-    ensures { result ≡ slice_index text.now at }
-{
-    if at < text.len() { text[at] } else { 0 }
 }
 
 /// The string at the front.

@@ -2,6 +2,9 @@
 ghost use Rattle.std.specs.Prelude.{◌≡◌};
 ghost use Rattle.pdllrw_command.specs.Positions.{position_behind, position_of};
 
+use byte_lanes::count_newlines;
+use memchr::memrchr;
+
 /// A line and a column of a text, both counted from 1 on.
 #[derive(Clone, Copy, Debug, PartialEq, Eq)]
 pub struct Position {
@@ -17,17 +20,14 @@ pub const FIRST: Position = Position { line: 1, column: 1 };
 fn position_behind(text: &[u8]) -> Position
     ensures { result ≡ position_behind text.now }
 {
-    let mut line = 1;
-    let mut column = 1;
-    for b in text {
-        if *b == b'\n' {
-            line += 1;
-            column = 1;
-        } else {
-            column += 1;
-        }
+    let line_start = match memrchr(b'\n', text) {
+        Some(line_feed) => line_feed + 1,
+        None => 0,
+    };
+    Position {
+        line: count_newlines(text) + 1,
+        column: text.len() - line_start + 1,
     }
-    Position { line, column }
 }
 
 /// The line and the column of a place. A place behind the end is that of the end.

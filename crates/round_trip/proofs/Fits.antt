@@ -5,7 +5,8 @@ use Rattle.std.specs.List.{AllByRecursion, list_all}
 use Rattle.std.proofs.lemmas.Bool.{and_parts}
 use Rattle.std.proofs.lemmas.Str.{IsUtf8-from_ascii}
 use Rattle.std.proofs.lemmas.Fmt.{IsAscii-decimal, IsAscii-decimal_wide}
-use Rattle.text_scan.specs.Bytes.{is_word_byte, is_word_start, is_digit, is_hex_digit}
+use Rattle.text_scan.specs.Bytes.{is_word_byte, is_word_start, is_digit}
+use Rattle.text_scan.specs.Hexadecimal.{is_hex_digit}
 use Rattle.mlir_lexer.specs.Forms.{HasForm, AreSome, IsExponent, is_exponent_mark, is_sign}
 use Rattle.mlir_lexer.specs.declared.token.TokenKind.TheVariants as k
 use Rattle.mlir_tree.specs.declared.sign.Sign.{Sign}

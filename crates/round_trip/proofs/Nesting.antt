@@ -6,7 +6,7 @@ use Rattle.std.specs.Option.{option_map_or}
 use Rattle.std.proofs.lemmas.Bool.{leb-true}
 use Rattle.std.proofs.lemmas.Bool.Decides.{nat_tests}
 use Rattle.std.proofs.Math.Seq.{drop-append_seam}
-use Rattle.text_scan.specs.Bytes.{is_hex_digit}
+use Rattle.text_scan.specs.Hexadecimal.{is_hex_digit}
 use Rattle.text_scan.specs.Strings.{IsPart, plain, escape, code, Spells, IsString, string_end, is_plain}
 use Rattle.text_scan.proofs.StringLaws.{string_front}
 use Rattle.mlir_lexer.specs.Body.{body, by_effect, effect_of, innermost, outer, closer}

@@ -5,7 +5,7 @@ use Rattle.std.specs.List.{AllByRecursion, prefix_len}
 use Rattle.std.proofs.lemmas.Bool.{and_parts}
 use Rattle.std.proofs.lemmas.Option.{same_Some, none-some}
 use Rattle.text_scan.specs.Bytes.{AllAre, is_digit, is_in}
-use Rattle.text_scan.specs.declared.bytes.Class.TheVariants as class
+use Rattle.byte_lanes.specs.declared.class.Class.TheVariants as class
 use Rattle.mlir_lexer.specs.Forms.{is_suffix_start}
 use Rattle.mlir_lexer.specs.Scan.{suffix_len, digits}
 use Rattle.mlir_lexer.specs.Body.{body}

@@ -5,7 +5,8 @@ use Rattle.std.proofs.lemmas.Bool.{and_parts, ltb-true}
 use Rattle.std.proofs.lemmas.Bool.Decides.{nat_tests}
 use Rattle.std.proofs.lemmas.Option.{same_Some, none-some}
 use lib.Utf8.{scalar, scalars, encode, encodes, next, scalar_cases}
-use Rattle.text_scan.specs.Bytes.{is_digit, is_hex_digit}
+use Rattle.text_scan.specs.Bytes.{is_digit}
+use Rattle.text_scan.specs.Hexadecimal.{is_hex_digit}
 use Rattle.text_scan.specs.Strings.{IsPart, plain, escape, code, Spells, IsString, string_value, escaped_byte, digit_value}
 use Rattle.text_scan.proofs.StringLaws.{string_value_is}
 use Rattle.mlir_lexer.specs.declared.token.TokenKind.{TokenKind}

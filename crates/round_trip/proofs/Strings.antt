@@ -4,7 +4,8 @@ use Rattle.std.specs.Prelude.{◌==◌, ◌&&◌, nat_le, nat_lt}
 use Rattle.std.specs.List.{flat_map}
 use Rattle.std.proofs.lemmas.Bool.{ltb-true, ltb-false}
 use Rattle.std.proofs.lemmas.Bool.Decides.{nat_tests}
-use Rattle.text_scan.specs.Bytes.{is_digit, is_hex_digit}
+use Rattle.text_scan.specs.Bytes.{is_digit}
+use Rattle.text_scan.specs.Hexadecimal.{is_hex_digit}
 use Rattle.text_scan.specs.Strings.{IsPart, plain, escape, code, Spells, IsStringOf, IsString, string_value, digit_value, byte_value, is_plain}
 use Rattle.text_scan.proofs.StringLaws.{string_value_is}
 use Rattle.mlir_print.specs.Text.{hex_digit, byte_text, string_text}

@@ -5,9 +5,10 @@ use Rattle.std.specs.List.{prefix_len}
 use Rattle.std.proofs.lemmas.Bool.{true≢false, ne_eqb, or_cases}
 use Rattle.std.proofs.lemmas.Bool.Decides.{nat_tests}
 use Rattle.std.proofs.lemmas.List.{drop-drop, drop_at, get_or_at}
-use Rattle.text_scan.specs.Bytes.{AllAre, is_in, is_space, is_digit, is_hex_digit, is_between, is_word_start, is_word_byte, is_suffix_byte}
+use Rattle.text_scan.specs.Bytes.{AllAre, is_in, is_space, is_digit, is_between, is_word_start, is_word_byte, is_suffix_byte}
+use Rattle.text_scan.specs.Hexadecimal.{is_hex_digit}
 use Rattle.text_scan.specs.Gaps.{gap_len}
-use Rattle.text_scan.specs.declared.bytes.Class.TheVariants as class
+use Rattle.byte_lanes.specs.declared.class.Class.TheVariants as class
 use Rattle.text_scan.specs.Strings.{IsString, Spells, string_end}
 use Rattle.text_scan.proofs.Runs.{prefix_len-front}
 use Rattle.text_scan.proofs.StringLaws.{string_covers}
@@ -179,8 +180,8 @@ hex_none false q m h = refl
 
 no_hex : (xs z : List ℕ) → AreSome is_digit xs → Stops z → hex_len (xs ++ z) ≡ 0
 no_hex [] z h stops = absurd h
-no_hex (b ∷ []) z h stops = hex_none (b == 48) (slice_index z 0 == 120) (behind 2 (prefix_len (is_in class.HexDigit) (drop 2 (b ∷ z)))) (no_hex_next z stops)
-no_hex (b ∷ c ∷ xs) z h stops = hex_none (b == 48) (c == 120) (behind 2 (prefix_len (is_in class.HexDigit) (xs ++ z))) (digit_no_hex_mark c h.1.0)
+no_hex (b ∷ []) z h stops = hex_none (b == 48) (slice_index z 0 == 120) (behind 2 (prefix_len is_hex_digit (drop 2 (b ∷ z)))) (no_hex_next z stops)
+no_hex (b ∷ c ∷ xs) z h stops = hex_none (b == 48) (c == 120) (behind 2 (prefix_len is_hex_digit (xs ++ z))) (digit_no_hex_mark c h.1.0)
 
 digit_first : (at b : ℕ) (s : List ℕ) → is_digit b ≡ true → first_token at (b ∷ s) ≡ number at (b ∷ s)
 digit_first at b s h = rw (digit_no_start b h, h) refl
@@ -211,8 +212,8 @@ hex_begins : (xs z : List ℕ) → AreSome is_hex_digit xs → Stops z → Begin
 hex_begins xs z h stops = (
   refl,
   λ at. let (all, some) = all_of is_hex_digit xs h in
-      let count : prefix_len (is_in class.HexDigit) (xs ++ z) ≡ length xs = run is_hex_digit xs z hex_suffix all stops in
-      let two : behind 2 (prefix_len (is_in class.HexDigit) (xs ++ z)) ≡ suc (suc (length xs)) = ap (behind 2) count ∙ some_behind 2 (length xs) some ∙ omega arith in
+      let count : prefix_len is_hex_digit (xs ++ z) ≡ length xs = run is_hex_digit xs z hex_suffix all stops in
+      let two : behind 2 (prefix_len is_hex_digit (xs ++ z)) ≡ suc (suc (length xs)) = ap (behind 2) count ∙ some_behind 2 (length xs) some ∙ omega arith in
       rw (two, ne_eqb (suc (suc (length xs))) 0 (λ none. omega arith)) refl,
 )
 

@@ -5,7 +5,7 @@ use Rattle.std.specs.List.{prefix_len, concat, AllByRecursion}
 use Rattle.std.proofs.lemmas.Bool.{and_parts, true≢false}
 use Rattle.std.proofs.lemmas.List.{drop-drop}
 use Rattle.text_scan.specs.Bytes.{AllAre, is_space, is_line_feed, is_in}
-use Rattle.text_scan.specs.declared.bytes.Class.TheVariants.{Line, Space}
+use Rattle.byte_lanes.specs.declared.class.Class.TheVariants.{Line, Space}
 use Rattle.text_scan.specs.Longest.{IsLongest}
 use Rattle.text_scan.proofs.Fronts.{longest_from}
 use Rattle.text_scan.proofs.Runs.{prefix_len-behind}

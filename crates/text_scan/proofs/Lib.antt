@@ -1,4 +1,4 @@
+pub use Rattle.byte_lanes.proofs.Runs
 pub mod Fronts
-pub mod Runs
 pub mod GapLaws
 pub mod StringLaws

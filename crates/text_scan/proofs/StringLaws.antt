@@ -8,7 +8,7 @@ use Rattle.text_scan.proofs.Fronts.{front_part, part_front}
 use Rattle.std.proofs.lemmas.Bool.{false≢true, not-false, or_cases, cases_Bool}
 use Rattle.std.proofs.lemmas.List.{take-append-drop, drop-drop, drop_all, drop_more, get_or-drop, get_or_default, length-take-le}
 use Rattle.text_scan.specs.declared.strings.Escape.{Escape}
-use Rattle.text_scan.specs.Bytes.{is_hex_digit}
+use Rattle.text_scan.specs.Hexadecimal.{is_hex_digit}
 use Rattle.text_scan.specs.Strings as spec
 use Rattle.text_scan.specs.Strings.{IsPart, Spells, IsStringOf, IsString, IsStringAt, escaped_byte, coded_byte, byte_value, escape_at, inside_end, inside_value, is_plain, string_value, part_at, IsNextSpecial}
 use Rattle.text_scan.specs.Strings.IsPart.{plain, escape, code}

@@ -3,7 +3,8 @@ use Rattle.std.specs.Prelude.{◌≡◌, ℕ, suc, zero, ◌+◌, ◌-◌, ◌*�
 use Rattle.std.specs.Option.{option_map, option_map_or}
 use Rattle.std.specs.List.{AllWithin}
 use Rattle.text_scan.specs.declared.strings.Escape.{Escape}
-use Rattle.text_scan.specs.Bytes.{is_digit, is_hex_digit}
+use Rattle.text_scan.specs.Bytes.{is_digit}
+use Rattle.text_scan.specs.Hexadecimal.{is_hex_digit}
 
 -- any byte but `"`, a line feed and a backslash
 abbrev pub is_plain : ℕ → Bool

@@ -1,29 +1,11 @@
-//! Classes of bytes, and runs of bytes of one class.
+//! Tests on a byte, and runs of bytes that pass one.
 
-ghost use Rattle.std.specs.Prelude.{◌≡◌, ◌+◌, ◌≤◌, length, drop};
+ghost use Rattle.std.specs.Prelude.{◌≡◌, ◌+◌, ◌≤◌, length, drop, slice_index};
 ghost use Rattle.std.specs.List.{prefix_len};
-ghost use Rattle.text_scan.specs.Bytes as spec;
+ghost use Rattle.byte_lanes.specs.Bytes as spec;
+ghost use Rattle.text_scan.specs.Hexadecimal.{is_hex_digit};
 
-use memchr::memchr;
-
-/// A class of bytes whose runs the lexers look for.
-#[derive(Clone, Copy, Debug, PartialEq, Eq)]
-pub enum Class {
-    /// A byte of a word of module text: a letter, a digit, `_`, `$` or `.`.
-    Word,
-    /// A byte of a suffix of module text: a byte of a word, or `-`.
-    Suffix,
-    /// A byte of a name of pattern text: a letter, a digit or `_`.
-    Name,
-    /// A decimal digit.
-    Digit,
-    /// A hexadecimal digit, in either case.
-    HexDigit,
-    /// A space, a tab, a line feed or a carriage return.
-    Space,
-    /// Any byte but a line feed.
-    Line,
-}
+pub use byte_lanes::{Class, run_len};
 
 /// Whether the byte is an ASCII letter.
 pub fn is_letter(b: u8) -> bool
@@ -41,7 +23,7 @@ pub fn is_digit(b: u8) -> bool
 
 /// Whether the byte is a hexadecimal digit, in either case.
 pub fn is_hex_digit(b: u8) -> bool
-    ensures { result ≡ spec.is_hex_digit b }
+    ensures { result ≡ is_hex_digit b }
 {
     is_digit(b) || (b'a' <= b && b <= b'f') || (b'A' <= b && b <= b'F')
 }
@@ -81,50 +63,22 @@ pub fn is_space(b: u8) -> bool
     b == b' ' || b == b'\t' || b == b'\n' || b == b'\r'
 }
 
-/// Whether the byte is of the class.
-pub fn is_in(class: Class, b: u8) -> bool
-    ensures { result ≡ spec.is_in class b }
+/// The byte at a place, and 0 where there is none.
+pub fn byte_at(bytes: &[u8], at: usize) -> u8
+    ensures { result ≡ slice_index bytes.now at }
 {
-    match class {
-        Class::Word => is_word_byte(b),
-        Class::Suffix => is_suffix_byte(b),
-        Class::Name => is_name_byte(b),
-        Class::Digit => is_digit(b),
-        Class::HexDigit => is_hex_digit(b),
-        Class::Space => is_space(b),
-        Class::Line => b != b'\n',
-    }
+    if at < bytes.len() { bytes[at] } else { 0 }
 }
 
-/// The number of bytes before the first line feed.
-#[tactic(auto, using(crate::proofs::Runs::line_len_is))]
-fn line_len(text: &[u8]) -> usize
-    ensures value { result ≡ prefix_len (spec.is_in Class.Line) text.now }
-    ensures within { result ≤ length text.now }
-{
-    memchr(b'\n', text).unwrap_or(text.len())
-}
-
-fn plain_run_len(bytes: &[u8], from: usize, class: Class) -> usize
+/// The greatest number of bytes at `from` that are all hexadecimal digits.
+pub fn hex_digits(bytes: &[u8], from: usize) -> usize
     requires { from ≤ length bytes.now }
-    ensures value { result ≡ prefix_len (spec.is_in class) (drop from bytes.now) }
+    ensures value { result ≡ prefix_len is_hex_digit (drop from bytes.now) }
     ensures within { from + result ≤ length bytes.now }
 {
     let mut end = from;
-    while end < bytes.len() && is_in(class, bytes[end]) {
+    while end < bytes.len() && is_hex_digit(bytes[end]) {
         end += 1;
     }
     end - from
-}
-
-/// The greatest number of bytes at `from` that are all of the class.
-pub fn run_len(bytes: &[u8], from: usize, class: Class) -> usize
-    requires { from ≤ length bytes.now }
-    ensures value { result ≡ prefix_len (spec.is_in class) (drop from bytes.now) }
-    ensures within { from + result ≤ length bytes.now }
-{
-    match class {
-        Class::Line => line_len(&bytes[from..]),
-        _ => plain_run_len(bytes, from, class),
-    }
 }

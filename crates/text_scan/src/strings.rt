@@ -1,10 +1,10 @@
 //! Strings between quotes, and the bytes that they stand for.
 
-ghost use Rattle.std.specs.Prelude.{◌≡◌, ℕ, List, ◌≤◌, ◌<◌, ◌+◌, length, drop, slice_index, Some, IfSome, IfOk, IsTrue};
-ghost use Rattle.text_scan.specs.Bytes.{is_hex_digit};
+ghost use Rattle.std.specs.Prelude.{◌≡◌, ℕ, List, ◌≤◌, ◌<◌, ◌+◌, length, drop, Some, IfSome, IfOk, IsTrue};
+ghost use Rattle.text_scan.specs.Hexadecimal.{is_hex_digit};
 ghost use Rattle.text_scan.specs.Strings as spec;
 
-use crate::bytes::is_hex_digit;
+use crate::bytes::{byte_at, is_hex_digit};
 use memchr::memchr3;
 use std::alloc::{AllocError, Global};
 
@@ -15,12 +15,6 @@ pub struct Escape {
     pub byte: u8,
     /// The number of bytes behind the backslash.
     pub len: usize,
-}
-
-fn byte_at(bytes: &[u8], at: usize) -> u8
-    ensures { result ≡ slice_index bytes.now at }
-{
-    if at < bytes.len() { bytes[at] } else { 0 }
 }
 
 fn escaped_byte(c: u8) -> Option<u8>

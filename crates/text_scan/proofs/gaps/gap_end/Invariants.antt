@@ -1,7 +1,7 @@
 use Rattle.std.proofs.Common.{◌≡◌, ◌+◌, ◌-◌, ◌≤◌, length, drop}
 use Rattle.std.specs.List.{prefix_len}
 use Rattle.text_scan.specs.Bytes.{is_in}
-use Rattle.text_scan.specs.declared.bytes.Class.TheVariants.{Space}
+use Rattle.byte_lanes.specs.declared.class.Class.TheVariants.{Space}
 use Rattle.text_scan.specs.Gaps.{gap_len}
 use Rattle.text_scan.proofs.gaps.gap_end.Given as goal
 

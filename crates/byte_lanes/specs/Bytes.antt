@@ -1,8 +1,8 @@
 -- Classes of bytes.
 use Rattle.std.specs.Prelude.{ℕ, Bool, not, ◌&&◌, ◌||◌, ◌==◌, nat_le, List, IsTrue}
 use Rattle.std.specs.List.{AllByRecursion}
-use Rattle.text_scan.specs.declared.bytes.Class.{Class}
-use Rattle.text_scan.specs.declared.bytes.Class.TheVariants as class
+use Rattle.byte_lanes.specs.declared.class.Class.{Class}
+use Rattle.byte_lanes.specs.declared.class.Class.TheVariants as class
 
 abbrev pub is_between : ℕ → ℕ → ℕ → Bool
 is_between low high b = nat_le low b && nat_le b high
@@ -12,9 +12,6 @@ is_letter b = is_between 97 122 b || is_between 65 90 b
 
 abbrev pub is_digit : ℕ → Bool
 is_digit b = is_between 48 57 b
-
-abbrev pub is_hex_digit : ℕ → Bool
-is_hex_digit b = is_digit b || is_between 97 102 b || is_between 65 70 b
 
 -- a letter or `_`
 abbrev pub is_word_start : ℕ → Bool
@@ -44,7 +41,6 @@ is_in class.Word b = is_word_byte b
 is_in class.Suffix b = is_suffix_byte b
 is_in class.Name b = is_name_byte b
 is_in class.Digit b = is_digit b
-is_in class.HexDigit b = is_hex_digit b
 is_in class.Space b = is_space b
 is_in class.Line b = not (is_line_feed b)
 
