@@ -16,6 +16,3 @@ pub use memory_host::MemHost;
 pub use memory_sink::MemSink;
 pub use sink::{Failed, Sink, put_all};
 pub use sure::{SureHost, SureSink};
-
-#[cfg(test)]
-mod tests;
