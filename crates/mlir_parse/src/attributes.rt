@@ -22,6 +22,8 @@ use mlir_tree::refusal::Refusal;
 use mlir_tree::sign::Sign;
 use mlir_tree::text::{Text, TextList};
 use mlir_tree::ty::Ty;
+use shared_list::Shared;
+use shared_text::SharedText;
 use sqlite_items::Items;
 use std::alloc::{AllocError, Global};
 use text_scan::strings::read_string;
@@ -44,7 +46,7 @@ fn number_type(alloc: Global, float: bool) -> Result<Ty, AllocError>
     ensures { IfOk result (λ t. t ≡ spec.number_type float) }
 {
     if float {
-        Ok(Ty::word(Items::from_slice(alloc, b"f64")?))
+        Ok(Ty::word(SharedText::from_slice(alloc, b"f64")?))
     } else {
         Ok(Ty::int(Sign::Signless, 64))
     }
@@ -133,7 +135,7 @@ fn fitting_type(
 ) -> Result<(usize, Ty), Refused>
     ensures { Reads (spec.fitting_type aliases.now room at float text.now reader.old) result reader.new }
 {
-    let mut again = reader.again();
+    let mut again = reader.again(alloc);
     match typed_number(alloc, reader, aliases, room, float) {
         Ok(found) => Ok(found),
         Err(Refusal::NoMemory) => Err(Refusal::NoMemory),
@@ -169,7 +171,7 @@ fn number(
 fn string_text(alloc: Global, text: &[u8]) -> Result<Text, AllocError>
     ensures { IfOk result (λ t. t ≡ spec.string_value text.now) }
 {
-    Ok(Items::from_vec(read_string(alloc, text)?))
+    SharedText::new(alloc, Items::from_vec(read_string(alloc, text)?))
 }
 
 /// A string.
@@ -285,7 +287,7 @@ fn pointed(
     ensures { Reads (spec.pointed aliases.now room name.now reader.old) result reader.new }
 {
     let ty = typed(alloc, reader, aliases, room)?;
-    Ok(Attr::kept(Items::from_slice(alloc, name)?, ty))
+    Ok(Attr::kept(SharedText::from_slice(alloc, name)?, ty))
 }
 
 /// An attribute that begins with `#` and a name.
@@ -315,8 +317,8 @@ fn symbol_name(alloc: Global, text: &[u8]) -> Result<Text, AllocError>
 {
     match text {
         [_, b'"', ..] => string_text(alloc, &text[1..]),
-        [_, name @ ..] => Items::from_slice(alloc, name),
-        [] => Ok(Items::new(alloc)),
+        [_, name @ ..] => SharedText::from_slice(alloc, name),
+        [] => Ok(SharedText::empty()),
     }
 }
 
@@ -340,7 +342,7 @@ fn symbols(alloc: Global, reader: &mut Reader<'_>) -> Result<TextList, Refused>
     for _turn in 0..reader.left() {
         found.push(symbol(alloc, reader)?)?;
         if !reader.eat(TokenKind::ColonColon) {
-            return Ok(found);
+            return Ok(Shared::new(alloc, found)?);
         }
     }
     Err(reader.refuse())
@@ -351,7 +353,10 @@ pub fn entry_name(alloc: Global, reader: &mut Reader<'_>) -> Result<Text, Refuse
     ensures { Reads (spec.entry_name reader.old) result reader.new }
 {
     match reader.kind() {
-        Some(TokenKind::Word) => Ok(Items::from_slice(alloc, reader.take())?),
+        Some(TokenKind::Word) => {
+            let word = reader.take();
+            Ok(reader.text(alloc, word)?)
+        }
         Some(TokenKind::String) => Ok(string_text(alloc, reader.take())?),
         _ => Err(reader.refuse()),
     }
@@ -431,7 +436,7 @@ fn array_attr(
     ensures { Reads (spec.array_attr (spec.attr aliases.now room) reader.old) result reader.new }
 {
     if reader.eat(TokenKind::RightBracket) {
-        return Ok(Attr::array(Items::new(alloc)));
+        return Ok(Attr::array(Shared::empty()));
     }
     let found = attr_items(alloc, reader, aliases, room)?;
     reader.expect(TokenKind::RightBracket)?;
@@ -453,7 +458,7 @@ fn attr_items(
     for _turn in 0..reader.left() {
         found.push(attr(alloc, reader, aliases, room)?)?;
         if !reader.eat(TokenKind::Comma) {
-            return Ok(found);
+            return Ok(Shared::new(alloc, found)?);
         }
     }
     Err(reader.refuse())
@@ -471,7 +476,7 @@ fn dict_attr(
     ensures { Reads (spec.dict_attr (spec.attr aliases.now room) reader.old) result reader.new }
 {
     if reader.eat(TokenKind::RightBrace) {
-        return Ok(Attr::dict(Items::new(alloc)));
+        return Ok(Attr::dict(Shared::empty()));
     }
     let found = dict_entries(alloc, reader, aliases, room)?;
     reader.expect(TokenKind::RightBrace)?;
@@ -528,7 +533,7 @@ pub fn entry_value(
 pub fn whole_attr(alloc: Global, bytes: &[u8]) -> Result<Attr, Refused>
     ensures { Gives result (spec.attr_of bytes.now) }
 {
-    let mut reader = Reader::new(bytes);
+    let mut reader = Reader::new(alloc, bytes);
     let aliases = Aliases::new(alloc);
     let found = attr(alloc, &mut reader, &aliases, MAX_OPEN)?;
     if !reader.sees(TokenKind::End) {

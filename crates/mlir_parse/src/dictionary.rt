@@ -7,6 +7,8 @@ ghost use Rattle.mlir_parse.specs.AttributeGrammar.{KeepsEntries};
 ghost use Rattle.mlir_parse.specs.Dictionary as spec;
 
 use mlir_tree::attr::{Attr, Dict};
+use shared_list::Shared;
+use shared_text::SharedText;
 use sqlite_items::Items;
 use std::alloc::{AllocError, Global};
 use std::collections::BTreeMap;
@@ -49,8 +51,9 @@ pub fn in_order(alloc: Global, found: Named) -> Result<Dict, AllocError>
 {
     let mut all = Items::new(alloc);
     for (name, value) in found {
-        all.push((Items::from_vec(name), value))?;
+        all.push((SharedText::new(alloc, Items::from_vec(name))?, value))?;
     }
+    let all = Shared::new(alloc, all)?;
     Ok(all)
 }
 

@@ -24,6 +24,7 @@ use mlir_print::{attr_text, ty_text};
 use mlir_tree::refusal::Refusal;
 use mlir_tree::text::Text;
 use simdutf8::compat::from_utf8;
+use shared_text::SharedText;
 use sqlite_items::Items;
 use std::alloc::{AllocError, Global};
 
@@ -34,7 +35,7 @@ fn meaning_text(alloc: Global, meaning: &Meaning) -> Result<Text, AllocError>
     match meaning {
         Meaning::Ty(ty) => ty_text(alloc, ty),
         Meaning::Attr(attr) => attr_text(alloc, attr),
-        Meaning::Location => Ok(Items::new(alloc)),
+        Meaning::Location => Ok(SharedText::empty()),
     }
 }
 
@@ -44,7 +45,7 @@ fn alias_of(alloc: Global, name: &[u8], meaning: Meaning) -> Result<Alias, Alloc
     let text = meaning_text(alloc, &meaning)?;
     let brackets = nesting(alloc, text.as_slice())?;
     Ok(Alias {
-        name: Items::from_slice(alloc, name)?,
+        name: SharedText::from_slice(alloc, name)?,
         meaning,
         text,
         brackets,
@@ -145,7 +146,7 @@ fn operations(alloc: Global, reader: &mut Reader<'_>) -> Result<Items<SynOp>, Re
 fn file(alloc: Global, bytes: &[u8]) -> Result<Syn, Refused>
     ensures { Gives result (spec.file_in bytes.now) }
 {
-    let mut reader = Reader::new(bytes);
+    let mut reader = Reader::new(alloc, bytes);
     let ops = operations(alloc, &mut reader)?;
     Ok(Syn { ops })
 }

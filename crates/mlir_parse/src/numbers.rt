@@ -17,7 +17,7 @@ use mlir_tree::number::Number;
 use mlir_tree::sign::Sign;
 use mlir_tree::text::Text;
 use mlir_tree::ty::{Ty, TyNode};
-use sqlite_items::Items;
+use shared_text::SharedText;
 use std::alloc::{AllocError, Global};
 
 /// The value of a digit, or 36.
@@ -182,7 +182,7 @@ fn signed_text(alloc: Global, neg: bool, text: &[u8]) -> Result<Text, AllocError
     if neg {
         joined(alloc, b"-", text)
     } else {
-        Items::from_slice(alloc, text)
+        SharedText::from_slice(alloc, text)
     }
 }
 

@@ -21,6 +21,8 @@ use mlir_lexer::TokenKind;
 use mlir_tree::refusal::Refusal;
 use mlir_tree::text::Text;
 use mlir_tree::ty::{Ty, TyList};
+use shared_list::Shared;
+use shared_text::SharedText;
 use sqlite_items::Items;
 use std::alloc::{AllocError, Global};
 use text_scan::bytes::is_digit;
@@ -64,8 +66,8 @@ fn value_name(alloc: Global, reader: &mut Reader<'_>) -> Result<Text, Refused>
     ensures { Reads (spec.value_name reader.old) result reader.new }
 {
     match reader.take() {
-        [_, name @ ..] => Ok(Items::from_slice(alloc, name)?),
-        [] => Ok(Items::new(alloc)),
+        [_, name @ ..] => Ok(reader.text(alloc, name)?),
+        [] => Ok(SharedText::empty()),
     }
 }
 
@@ -253,7 +255,7 @@ fn operands(alloc: Global, reader: &mut Reader<'_>, room: u32) -> Result<Items<S
 fn string_text(alloc: Global, text: &[u8]) -> Result<Text, AllocError>
     ensures { IfOk result (λ t. t ≡ spec.string_value text.now) }
 {
-    Ok(Items::from_vec(read_string(alloc, text)?))
+    SharedText::new(alloc, Items::from_vec(read_string(alloc, text)?))
 }
 
 #[tactic(auto, using(crate::proofs::OperationSteps::same_spelling), unfolding(crate::specs::Operations::name_here))]
@@ -317,7 +319,7 @@ fn operand_type_items(
     for _turn in 0..reader.left() {
         found.push(ty(alloc, reader, aliases, room)?)?;
         if !reader.eat(TokenKind::Comma) {
-            return Ok(found);
+            return Ok(Shared::new(alloc, found)?);
         }
     }
     Err(reader.refuse())
@@ -333,7 +335,7 @@ fn operand_types_inside(
     ensures { Reads (spec.operand_types_inside aliases.now room reader.old) result reader.new }
 {
     if reader.sees(TokenKind::RightParen) {
-        return Ok(Items::new(alloc));
+        return Ok(Shared::empty());
     }
     operand_type_items(alloc, reader, aliases, room)
 }
@@ -398,7 +400,7 @@ fn result_type_items(
         let before = found.len();
         found.push(result_type(alloc, reader, aliases, room, before)?)?;
         if !reader.eat(TokenKind::Comma) {
-            return Ok(found);
+            return Ok(reader.types(alloc, found)?);
         }
     }
     Err(reader.refuse())
@@ -414,7 +416,7 @@ fn result_types_inside(
     ensures { Reads (spec.result_types_inside aliases.now room reader.old) result reader.new }
 {
     if reader.sees(TokenKind::RightParen) {
-        return Ok(Items::new(alloc));
+        return Ok(Shared::empty());
     }
     result_type_items(alloc, reader, aliases, room)
 }
@@ -444,7 +446,7 @@ fn one_result_type(
 {
     let mut found = room_for_one(alloc)?;
     found.push(result_type(alloc, reader, aliases, room, 0)?)?;
-    Ok(found)
+    Ok(reader.types(alloc, found)?)
 }
 
 /// One type that isn't written as a function type, or a list in brackets.

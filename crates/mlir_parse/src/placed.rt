@@ -8,10 +8,11 @@ ghost use Rattle.mlir_parse.specs.Entries as spec;
 use crate::aliases::Aliases;
 use crate::attributes::{entry_name, entry_value};
 use crate::fault::ModKind;
-use crate::reader::{Reader, Refused, fail_at};
+use crate::reader::{Reader, Refused, fail_at, room_for_one};
 use crate::syn::SynEntry;
 use mlir_lexer::TokenKind;
 use mlir_tree::attr::Attr;
+use shared_text::SharedText;
 use sqlite_items::Items;
 use std::alloc::{AllocError, Global};
 use std::collections::BTreeMap;
@@ -50,11 +51,11 @@ fn put_placed(
 fn in_order(alloc: Global, found: Placed) -> Result<Items<SynEntry>, AllocError>
     ensures { IfOk result (λ es. es ≡ map spec.syn_entry (spec.all_placed found)) }
 {
-    let mut all = Items::new(alloc);
+    let mut all = room_for_one(alloc)?;
     for (name, (at, value)) in found {
         all.push(SynEntry {
             at,
-            name: Items::from_vec(name),
+            name: SharedText::new(alloc, Items::from_vec(name))?,
             value,
         })?;
     }

@@ -16,6 +16,9 @@ use crate::locations::balanced;
 use mlir_lexer::{BodyFault, LexFault, Token, TokenKind, body_end, next_token};
 use mlir_tree::refusal::Refusal;
 use mlir_tree::text::Text;
+use mlir_tree::ty::{Ty, TyList};
+use recent::Recent;
+use shared_text::SharedText;
 use sqlite_items::Items;
 use std::alloc::{AllocError, Global};
 use std::marker::Model;
@@ -35,6 +38,8 @@ pub struct Reader<'a> {
     operations: usize,
     /// The operands and results.
     slots: usize,
+    /// What was made lately. No contract sees it.
+    recent: Recent,
 }
 
 impl<'a> Model for Reader<'a> {
@@ -52,7 +57,7 @@ impl<'a> Model for Reader<'a> {
 }
 
 impl<'a> Reader<'a> {
-    pub fn new(bytes: &'a [u8]) -> Reader<'a>
+    pub fn new(alloc: Global, bytes: &'a [u8]) -> Reader<'a>
         ensures { result ≡ place.start_of bytes.now }
     {
         Reader {
@@ -62,11 +67,12 @@ impl<'a> Reader<'a> {
             put: 0,
             operations: 0,
             slots: 0,
+            recent: Recent::new(alloc),
         }
     }
 
     /// A second reader at the same place.
-    pub fn again(&self) -> Reader<'a>
+    pub fn again(&self, alloc: Global) -> Reader<'a>
         ensures { result ≡ self.now }
     {
         Reader {
@@ -76,7 +82,24 @@ impl<'a> Reader<'a> {
             put: self.put,
             operations: self.operations,
             slots: self.slots,
+            recent: Recent::new(alloc),
         }
+    }
+
+    /// The text of these bytes. It shares memory with an equal text that was read lately.
+    pub fn text(&mut self, alloc: Global, bytes: &[u8]) -> Result<Text, AllocError>
+        ensures value { IfOk result (λ t. t ≡ bytes.now) }
+        ensures place { self.new ≡ self.old }
+    {
+        self.recent.text(alloc, bytes)
+    }
+
+    /// The list of these types. It shares memory with an equal list that was read lately.
+    pub fn types(&mut self, alloc: Global, types: Items<Ty>) -> Result<TyList, AllocError>
+        ensures value { IfOk result (λ ts. ts ≡ types) }
+        ensures place { self.new ≡ self.old }
+    {
+        self.recent.types(alloc, types)
     }
 
     /// Goes on at another place.
@@ -400,7 +423,7 @@ pub fn joined(alloc: Global, front: &[u8], back: &[u8]) -> Result<Text, AllocErr
     for b in back {
         text.push(*b)?;
     }
-    Ok(text)
+    SharedText::new(alloc, text)
 }
 
 fn fault_at(kind: ModKind, at: usize) -> ModFault

@@ -15,7 +15,8 @@ use crate::reader::{MAX_OPEN, Reader, Refused, fail_at, room_for_one};
 use mlir_lexer::TokenKind;
 use mlir_tree::sign::Sign;
 use mlir_tree::ty::{Ty, TyList};
-use sqlite_items::Items;
+use shared_list::Shared;
+use shared_text::SharedText;
 use std::alloc::{AllocError, Global};
 use text_scan::bytes::is_digit;
 
@@ -88,7 +89,7 @@ fn leaf(alloc: Global, at: usize, word: &[u8]) -> Result<Ty, Refused>
     if word == b"index".as_slice() {
         return Ok(Ty::index());
     }
-    Ok(Ty::word(Items::from_slice(alloc, word)?))
+    Ok(Ty::word(SharedText::from_slice(alloc, word)?))
 }
 
 /// The type that an alias stands for, whose use is at `at`.
@@ -152,7 +153,7 @@ pub fn bang_type(
         return Ok(Ty::word(reader.kept(alloc, aliases, name, room)?));
     }
     if has_point(name) {
-        return Ok(Ty::word(Items::from_slice(alloc, name)?));
+        return Ok(Ty::word(SharedText::from_slice(alloc, name)?));
     }
     alias_ty(alloc, reader, aliases, room, at, name)
 }
@@ -162,7 +163,7 @@ fn one(alloc: Global, ty: Ty) -> Result<TyList, AllocError>
 {
     let mut all = room_for_one(alloc)?;
     all.push(ty)?;
-    Ok(all)
+    Shared::new(alloc, all)
 }
 
 /// A type, where so many brackets may be opened.
@@ -228,7 +229,7 @@ fn ty_list(
     ensures { Reads (list RightParen (spec.ty aliases.now room) reader.old) result reader.new }
 {
     if reader.eat(TokenKind::RightParen) {
-        return Ok(Items::new(alloc));
+        return Ok(Shared::empty());
     }
     let found = ty_items(alloc, reader, aliases, room)?;
     reader.expect(TokenKind::RightParen)?;
@@ -249,7 +250,7 @@ fn ty_items(
     for _turn in 0..reader.left() {
         found.push(ty(alloc, reader, aliases, room)?)?;
         if !reader.eat(TokenKind::Comma) {
-            return Ok(found);
+            return Ok(reader.types(alloc, found)?);
         }
     }
     Err(reader.refuse())
@@ -260,7 +261,7 @@ fn ty_items(
 pub fn whole_ty(alloc: Global, bytes: &[u8]) -> Result<Ty, Refused>
     ensures { Gives result (spec.type_of bytes.now) }
 {
-    let mut reader = Reader::new(bytes);
+    let mut reader = Reader::new(alloc, bytes);
     let aliases = Aliases::new(alloc);
     let found = ty(alloc, &mut reader, &aliases, MAX_OPEN)?;
     if !reader.sees(TokenKind::End) {

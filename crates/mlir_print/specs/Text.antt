@@ -1,5 +1,6 @@
 -- The text of types, attributes and strings (MLIR Language Reference, "Type System" and "Attributes"; builtin dialect).
 pub use Rattle.std.specs.Prelude.{decimal}
+pub use Rattle.mlir_tree.specs.SignText.{sign_text}
 use Rattle.std.specs.Prelude.{ℕ, ◌+◌, ◌/◌, ◌%◌, Bool, true, false, not, ◌&&◌, ◌==◌, nat_le, nat_lt, if◌then◌else◌, List, [], ◌∷◌, ◌++◌, codes, Option, Some, None}
 use Rattle.std.specs.List.{flat_map, list_all}
 use Rattle.text_scan.specs.Bytes.{is_word_start, is_word_byte}
@@ -38,11 +39,6 @@ unfoldable pub name_text : List ℕ → List ℕ
 name_text name = if is_bare name then name else string_text name
 
 -- ---- types
-
-abbrev pub sign_text : Sign → List ℕ
-sign_text Signless = codes "i"
-sign_text Signed = codes "si"
-sign_text Unsigned = codes "ui"
 
 abbrev pub is_function : Ty → Bool
 is_function (func xs ys) = true

@@ -222,5 +222,5 @@ pub fn attr_text(alloc: Global, attr: &Attr) -> Result<Text, AllocError>
 {
     let mut sink = TextSink::new(alloc);
     let printed = print_attr(attr, &mut sink);
-    sink.finish(printed)
+    sink.finish(alloc, printed)
 }

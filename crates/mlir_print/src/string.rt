@@ -138,5 +138,5 @@ pub fn string_text(alloc: Global, bytes: &[u8]) -> Result<Text, AllocError>
 {
     let mut sink = TextSink::new(alloc);
     let printed = print_string(bytes, &mut sink);
-    sink.finish(printed)
+    sink.finish(alloc, printed)
 }

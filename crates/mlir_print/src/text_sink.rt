@@ -1,10 +1,11 @@
 // A sink that keeps the text which it takes.
-ghost use Rattle.std.specs.Prelude.{◌≡◌, ◌<◌, ◌≤◌, [], length, take, IfOk, OnErr, IsOk, IsErr};
+ghost use Rattle.std.specs.Prelude.{◌≡◌, ◌<◌, ◌≤◌, [], length, take, IfOk, OnErr, IsOk};
 ghost use Rattle.rw_outside.specs.Outside.{Rose, appended, Grows};
 ghost use Rattle.mlir_print.specs.TextSink.{text_state};
 
 use mlir_tree::text::Text;
 use rw_outside::{Failed, Sink};
+use shared_text::SharedText;
 use sqlite_items::Items;
 use std::alloc::{AllocError, Global};
 
@@ -28,12 +29,11 @@ impl TextSink {
     }
 
     // The text taken, where all was put.
-    pub fn finish(self, printed: Result<(), Failed>) -> Result<Text, AllocError>
+    pub fn finish(self, alloc: Global, printed: Result<(), Failed>) -> Result<Text, AllocError>
         ensures text { IfOk result (λ text. IsOk printed × (text ≡ self.bytes.items)) }
-        ensures failed { OnErr result (IsErr printed) }
     {
         match printed {
-            Ok(()) => Ok(Items::from_vec(self.bytes)),
+            Ok(()) => SharedText::new(alloc, Items::from_vec(self.bytes)),
             Err(Failed) => Err(AllocError),
         }
     }

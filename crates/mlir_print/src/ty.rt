@@ -120,5 +120,5 @@ pub fn ty_text(alloc: Global, ty: &Ty) -> Result<Text, AllocError>
 {
     let mut sink = TextSink::new(alloc);
     let printed = print_ty(ty, &mut sink);
-    sink.finish(printed)
+    sink.finish(alloc, printed)
 }

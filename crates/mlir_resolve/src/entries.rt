@@ -9,6 +9,7 @@ ghost use Rattle.mlir_resolve.specs.Resolving.{lesser, least_shared};
 use mlir_parse::syn::SynEntry;
 use mlir_tree::attr::Dict;
 use mlir_tree::text::copy_text;
+use shared_list::Shared;
 use sqlite_items::Items;
 use std::alloc::{AllocError, Global};
 use std::cmp::Ordering;
@@ -17,13 +18,13 @@ use std::cmp::Ordering;
 pub fn dict(alloc: Global, entries: &[SynEntry]) -> Result<Dict, AllocError>
     ensures { IfOk result (λ d. d ≡ map entry_pair entries.now) }
 {
-    let mut copied = Items::new(alloc);
+    let mut copied = Items::from_vec(Vec::with_capacity(alloc, entries.len())?);
     for entry in entries {
         let name = copy_text(alloc, &entry.name)?;
         let value = entry.value.copy(alloc)?;
         copied.push((name, value))?;
     }
-    Ok(copied)
+    Shared::new(alloc, copied)
 }
 
 /// The lesser of a place and another, where there is one.

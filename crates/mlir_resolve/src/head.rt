@@ -17,8 +17,9 @@ use mlir_parse::syn::{SynArg, SynOp, SynRegion};
 use mlir_tree::refusal::Refusal;
 use mlir_tree::row::{Home, RegionList, Row};
 use mlir_tree::text::copy_text;
-use mlir_tree::ty::{TyList, copy_tys};
+use mlir_tree::ty::TyList;
 use mlir_tree::value::ValList;
+use shared_list::Shared;
 use sqlite_items::Items;
 use std::alloc::{AllocError, Global};
 
@@ -30,7 +31,7 @@ fn arg_types(alloc: Global, args: &[SynArg]) -> Result<TyList, AllocError>
     for arg in args {
         types.push(arg.ty.copy(alloc)?)?;
     }
-    Ok(types)
+    Shared::new(alloc, types)
 }
 
 /// The types of the arguments of each region.
@@ -41,7 +42,7 @@ fn region_types(alloc: Global, regions: &[SynRegion]) -> Result<RegionList, Allo
     for region in regions {
         types.push(arg_types(alloc, region.args.as_slice())?)?;
     }
-    Ok(types)
+    Shared::new(alloc, types)
 }
 
 pub fn refused(kind: ModKind, at: usize) -> Refused
@@ -96,7 +97,7 @@ pub fn checked_row<'t>(
         home,
         name: copy_text(alloc, &op.name)?,
         operands,
-        results: copy_tys(alloc, op.result_types.as_slice())?,
+        results: op.result_types.copy()?,
         props: dict(alloc, op.props.as_slice())?,
         attrs: dict(alloc, op.attrs.as_slice())?,
         regions: region_types(alloc, op.regions.as_slice())?,

@@ -16,7 +16,10 @@ use mlir_parse::fault::ModFault;
 use mlir_parse::syn::{Syn, SynOp};
 use mlir_tree::refusal::Refusal;
 use mlir_tree::row::{Home, Row};
+use mlir_tree::value::ValList;
 use mlir_tree::rows::{RowList, Rows};
+use shared_list::Shared;
+use shared_text::SharedText;
 use sqlite_items::Items;
 use std::alloc::{AllocError, Global};
 
@@ -45,16 +48,16 @@ fn module_row(alloc: Global) -> Result<Row, AllocError>
     ensures { IfOk result (λ row. row ≡ implied_row) }
 {
     let mut regions = Items::new(alloc);
-    regions.push(Items::new(alloc))?;
+    regions.push(Shared::empty())?;
     Ok(Row {
         id: 0,
         home: None,
-        name: Items::from_slice(alloc, b"builtin.module")?,
-        operands: Items::new(alloc),
-        results: Items::new(alloc),
-        props: Items::new(alloc),
-        attrs: Items::new(alloc),
-        regions,
+        name: SharedText::from_slice(alloc, b"builtin.module")?,
+        operands: ValList::empty(),
+        results: Shared::empty(),
+        props: Shared::empty(),
+        attrs: Shared::empty(),
+        regions: Shared::new(alloc, regions)?,
     })
 }
 

@@ -94,5 +94,8 @@ pub fn operands<'t>(
         values.push(named.value_at(used.index))?;
         differs = first_fault(differs, named, used, at(written, i));
     }
-    Ok(Taken { values, differs })
+    Ok(Taken {
+        values: ValList::new(alloc, values)?,
+        differs,
+    })
 }

@@ -14,3 +14,5 @@ pub mod Module
 pub mod WellFormed
 pub mod Edits
 pub mod Laws
+pub mod ValForms
+pub mod SignText

@@ -7,9 +7,9 @@ ghost use Rattle.mlir_tree.specs.Range.{IsInRange, AreRising, entry_names, attr_
 ghost use Rattle.mlir_tree.specs.AttrView.{node_rank};
 
 use crate::number::{Number, cmp_numbers};
-use crate::text::{Text, TextList, cmp_texts, copy_text, copy_texts};
+use crate::text::{Text, TextList, cmp_texts, copy_text};
 use crate::ty::{Ty, cmp_ty_options, copy_ty_option};
-use sqlite_items::Items;
+use shared_list::Shared;
 use std::alloc::{AllocError, Global};
 use std::cmp::Ordering;
 use std::marker::Model;
@@ -40,10 +40,10 @@ pub enum AttrNode {
 }
 
 /// A list of attributes.
-pub type AttrList = Items<Attr>;
+pub type AttrList = Shared<Attr>;
 
 /// The entries of a dictionary: names with their attributes.
-pub type Dict = Items<(Text, Attr)>;
+pub type Dict = Shared<(Text, Attr)>;
 
 impl Model for Attr {
     ghost use Rattle.mlir_tree.specs.Tree.{Attr as Meaning};
@@ -163,8 +163,7 @@ impl Attr {
         }
     }
 
-    /// An equal attribute.
-    #[cycle(copy_attr)]
+    /// An equal attribute, which shares the parts of this one.
     pub fn copy(&self, alloc: Global) -> Result<Attr, AllocError>
         ensures { IfOk result (λ t. t ≡ self.now) }
     {
@@ -176,10 +175,10 @@ impl Attr {
                 copy_text(alloc, text)?,
                 copy_ty_option(alloc, ty)?,
             ),
-            AttrNode::Sym(names) => AttrNode::Sym(copy_texts(alloc, names.as_slice())?),
+            AttrNode::Sym(names) => AttrNode::Sym(names.copy()?),
             AttrNode::OfTy(ty) => AttrNode::OfTy(ty.copy(alloc)?),
-            AttrNode::Array(items) => AttrNode::Array(copy_attrs(alloc, items.as_slice())?),
-            AttrNode::Dict(items) => AttrNode::Dict(copy_dict(alloc, items.as_slice())?),
+            AttrNode::Array(items) => AttrNode::Array(items.copy()?),
+            AttrNode::Dict(items) => AttrNode::Dict(items.copy()?),
             AttrNode::Kept(text, ty) => AttrNode::Kept(
                 copy_text(alloc, text)?,
                 copy_ty_option(alloc, ty)?,
@@ -237,32 +236,6 @@ fn rank(node: &AttrNode) -> u8
         AttrNode::Dict(_) => 7,
         AttrNode::Kept(_, _) => 8,
     }
-}
-
-/// Equal attributes.
-#[cycle(copy_attr)]
-pub fn copy_attrs(alloc: Global, all: &[Attr]) -> Result<AttrList, AllocError>
-    ensures { IfOk result (λ t. t ≡ all.now) }
-{
-    let mut copied = Items::new(alloc);
-    for attr in all {
-        copied.push(attr.copy(alloc)?)?;
-    }
-    Ok(copied)
-}
-
-/// Equal entries.
-#[cycle(copy_attr)]
-pub fn copy_dict(alloc: Global, all: &[(Text, Attr)]) -> Result<Dict, AllocError>
-    ensures { IfOk result (λ t. t ≡ all.now) }
-{
-    let mut copied = Items::new(alloc);
-    for entry in all {
-        let name = copy_text(alloc, &entry.0)?;
-        let value = entry.1.copy(alloc)?;
-        copied.push((name, value))?;
-    }
-    Ok(copied)
 }
 
 /// The order of lists of attributes by their first difference.

@@ -4,14 +4,13 @@
 pub mod attr;
 pub mod attr_keys;
 pub mod bad_use;
+pub mod content;
 pub mod laws;
 pub mod number;
 pub mod refusal;
 pub mod row;
 pub mod rows;
 pub mod sign;
-#[cfg(test)]
-mod tests;
 pub mod text;
 pub mod ty;
 pub mod ty_keys;

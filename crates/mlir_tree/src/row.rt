@@ -3,10 +3,11 @@
 ghost use Rattle.std.specs.Prelude.{◌≡◌, ◌↔◌, IfOk, IsTrue};
 ghost use Rattle.mlir_tree.specs.Fields.{HasSignatureOf};
 
-use crate::attr::{Dict, copy_dict, equal_dicts};
-use crate::text::{Text, copy_text, equal_texts};
-use crate::ty::{TyList, copy_tys, equal_tys};
+use crate::attr::{Dict, equal_dicts};
+use crate::text::{Text, equal_texts};
+use crate::ty::{TyList, equal_tys};
 use crate::value::{ValList, equal_vals};
+use shared_list::Shared;
 use sqlite_items::Items;
 use std::alloc::{AllocError, Global};
 
@@ -18,7 +19,7 @@ pub struct Home {
 }
 
 /// For each region the types of its arguments.
-pub type RegionList = Items<TyList>;
+pub type RegionList = Shared<TyList>;
 
 /// A list of the numbers of rows.
 pub type IdList = Items<u32>;
@@ -39,18 +40,18 @@ pub struct Row {
 
 impl Row {
     /// An equal row.
-    pub fn copy(&self, alloc: Global) -> Result<Row, AllocError>
+    pub fn copy(&self, _alloc: Global) -> Result<Row, AllocError>
         ensures { IfOk result (λ copy. copy ≡ self.now) }
     {
         Ok(Row {
             id: self.id,
             home: self.home,
-            name: copy_text(alloc, &self.name)?,
-            operands: Items::from_slice(alloc, self.operands.as_slice())?,
-            results: copy_tys(alloc, self.results.as_slice())?,
-            props: copy_dict(alloc, self.props.as_slice())?,
-            attrs: copy_dict(alloc, self.attrs.as_slice())?,
-            regions: copy_regions(alloc, self.regions.as_slice())?,
+            name: self.name.copy()?,
+            operands: self.operands.copy()?,
+            results: self.results.copy()?,
+            props: self.props.copy()?,
+            attrs: self.attrs.copy()?,
+            regions: self.regions.copy()?,
         })
     }
 
@@ -93,17 +94,6 @@ impl Row {
         equal_dicts(self.props.as_slice(), other.props.as_slice())
             && equal_dicts(self.attrs.as_slice(), other.attrs.as_slice())
     }
-}
-
-/// Equal regions.
-pub fn copy_regions(alloc: Global, regions: &[TyList]) -> Result<RegionList, AllocError>
-    ensures { IfOk result (λ copy. copy ≡ regions.now) }
-{
-    let mut copied = Items::new(alloc);
-    for arguments in regions {
-        copied.push(copy_tys(alloc, arguments.as_slice())?)?;
-    }
-    Ok(copied)
 }
 
 /// Whether the regions have equal arguments.

@@ -39,7 +39,7 @@ impl Rows {
 pub fn copy_rows(alloc: Global, rows: &[Row]) -> Result<RowList, AllocError>
     ensures { IfOk result (λ copy. copy ≡ rows.now) }
 {
-    let mut copied = Items::new(alloc);
+    let mut copied = Items::from_vec(Vec::with_capacity(alloc, rows.len())?);
     for row in rows {
         copied.push(row.copy(alloc)?)?;
     }

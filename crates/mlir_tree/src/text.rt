@@ -3,21 +3,22 @@
 ghost use Rattle.std.specs.Prelude.{◌≡◌, ◌↔◌, IfOk, IsTrue};
 ghost use Rattle.mlir_tree.specs.Order.{texts_cmp};
 
-use sqlite_items::Items;
+use shared_list::Shared;
+use shared_text::SharedText;
 use std::alloc::{AllocError, Global};
 use std::cmp::Ordering;
 
-/// A list of bytes.
-pub type Text = Items<u8>;
+/// A list of bytes. Copies share it.
+pub type Text = SharedText;
 
 /// A list of texts.
-pub type TextList = Items<Text>;
+pub type TextList = Shared<Text>;
 
 /// An equal text.
-pub fn copy_text(alloc: Global, text: &Text) -> Result<Text, AllocError>
+pub fn copy_text(_alloc: Global, text: &Text) -> Result<Text, AllocError>
     ensures { IfOk result (λ copy. copy ≡ text.now) }
 {
-    Items::from_slice(alloc, text.as_slice())
+    text.copy()
 }
 
 /// Whether the texts have the same bytes.
@@ -25,17 +26,6 @@ pub fn equal_texts(a: &[u8], b: &[u8]) -> bool
     ensures { IsTrue result ↔ (a.now ≡ b.now) }
 {
     a == b
-}
-
-/// Equal texts.
-pub fn copy_texts(alloc: Global, texts: &[Text]) -> Result<TextList, AllocError>
-    ensures { IfOk result (λ copy. copy ≡ texts.now) }
-{
-    let mut copied = Items::new(alloc);
-    for text in texts {
-        copied.push(copy_text(alloc, text)?)?;
-    }
-    Ok(copied)
 }
 
 /// The order of lists of texts by their first difference.

@@ -8,7 +8,8 @@ ghost use Rattle.mlir_tree.specs.TyView.{node_rank};
 
 use crate::number::{Number, is_below_power};
 use crate::sign::Sign;
-use crate::text::{Text, copy_text};
+use crate::text::Text;
+use shared_list::Shared;
 use sqlite_items::Items;
 use std::alloc::{AllocError, Global};
 use std::cmp::Ordering;
@@ -31,8 +32,8 @@ pub enum TyNode {
     Word(Text),
 }
 
-/// A list of types.
-pub type TyList = Items<Ty>;
+/// A list of types. Copies share it.
+pub type TyList = Shared<Ty>;
 
 impl Model for Ty {
     ghost use Rattle.mlir_tree.specs.Tree.{Ty as Meaning};
@@ -105,19 +106,15 @@ impl Ty {
         }
     }
 
-    /// An equal type.
-    #[cycle(copy_ty)]
-    pub fn copy(&self, alloc: Global) -> Result<Ty, AllocError>
+    /// An equal type, which shares the parts of this one.
+    pub fn copy(&self, _alloc: Global) -> Result<Ty, AllocError>
         ensures { IfOk result (λ t. t ≡ self.now) }
     {
         match &self.node {
             TyNode::Int(sign, width) => Ok(Ty::int(*sign, *width)),
             TyNode::Index => Ok(Ty::index()),
-            TyNode::Func(inputs, results) => Ok(Ty::func(
-                copy_tys(alloc, inputs.as_slice())?,
-                copy_tys(alloc, results.as_slice())?,
-            )),
-            TyNode::Word(text) => Ok(Ty::word(copy_text(alloc, text)?)),
+            TyNode::Func(inputs, results) => Ok(Ty::func(inputs.copy()?, results.copy()?)),
+            TyNode::Word(text) => Ok(Ty::word(text.copy()?)),
         }
     }
 
@@ -156,15 +153,14 @@ fn rank(node: &TyNode) -> u8
 }
 
 /// Equal types.
-#[cycle(copy_ty)]
 pub fn copy_tys(alloc: Global, all: &[Ty]) -> Result<TyList, AllocError>
     ensures { IfOk result (λ t. t ≡ all.now) }
 {
-    let mut copied = Items::new(alloc);
+    let mut copied = Items::from_vec(Vec::with_capacity(alloc, all.len())?);
     for ty in all {
         copied.push(ty.copy(alloc)?)?;
     }
-    Ok(copied)
+    Shared::new(alloc, copied)
 }
 
 /// The order of lists of types by their first difference.

@@ -9,5 +9,5 @@ use Rattle.mlir_parse.proofs.dictionary.in_order.Goals as goal
 
 pub returns-clause-rising : goal.returns-clause-rising
 returns-clause-rising c =
-    let e : c.loop-name.all ≡ map entry_of c.args.found.entries = first_of (search rules, grind (arith, common_steps)) in
+    let e : c.in_ok-all.all ≡ map entry_of c.args.found.entries = first_of (search rules, grind (arith, common_steps)) in
     subst (λ es. AreRising (entry_names (entries es))) (sym e) (rising c.args.found.entries c.into_iter-name-iterator.ensures.into_iter_gives.5)
