@@ -1,7 +1,7 @@
 //! Entries in the order of their names.
 
 ghost use Rattle.std.specs.Prelude.{◌≡◌, [], IfOk, OnOk};
-ghost use Rattle.mlir_parse.specs.Dictionary as spec;
+ghost use Rattle.mlir_attributes.specs.Dictionary as spec;
 ghost use Rattle.rewrite_model.specs.Making.{sorted};
 ghost use Rattle.rewrite_step.specs.Sorting.{put_all};
 

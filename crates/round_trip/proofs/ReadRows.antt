@@ -10,7 +10,7 @@ use Rattle.mlir_tree.specs.Tree.{tys}
 use Rattle.mlir_tree.specs.Module.{enclosing}
 use Rattle.mlir_print.specs.ModuleText.{value_type, is_empty}
 use Rattle.mlir_parse.specs.declared.syn.SynArg.{SynArg}
-use Rattle.mlir_parse.specs.Types.{max_open}
+use Rattle.mlir_attributes.specs.Types.{max_open}
 use Rattle.mlir_parse.specs.SynTree.{Head, Operation, operation, Regions, no_regions, region_then, Operations, no_operations, operation_then}
 use Rattle.mlir_parse.specs.Limits.{operation_count, operations_count}
 use Rattle.mlir_resolve.specs.Laid.{Laid, region, row_with, entry_pair, arguments_of, argument_types, laid_operation, laid_regions, laid_operations}
