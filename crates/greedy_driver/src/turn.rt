@@ -3,7 +3,7 @@
 ghost use Rattle.std.specs.Prelude.{◌≡◌, ◌<◌, ◌∷◌, length, map, slice_get, IfOk, Ok, Some, OnErr};
 ghost use Rattle.mlir_tree.specs.WellFormed.{IsWellFormed};
 ghost use Rattle.mlir_tree.specs.declared.refusal.Refusal.TheVariants.{Fault};
-ghost use Rattle.mlir_resolve.specs.Indexing.{Indexes};
+ghost use Rattle.row_index.specs.Indexing.{Indexes};
 ghost use Rattle.rewrite_model.specs.Determined.{AreDetermined};
 ghost use Rattle.rewrite_model.specs.Step.{step};
 ghost use Rattle.rewrite_model.specs.Running.{taken, ending_by, Reaches};
@@ -14,7 +14,7 @@ ghost use Rattle.greedy_driver.specs.Found.{IsFirst};
 ghost use Rattle.greedy_driver.specs.Course.{IsTurn};
 
 use crate::next::{Found, next};
-use mlir_resolve::index::RowIndex;
+use row_index::index::RowIndex;
 use mlir_tree::refusal::Refusal;
 use mlir_tree::rows::Rows;
 use pdll_patterns::pattern::Pattern;
