@@ -1,5 +1,5 @@
 -- How many brackets are open at once in a printed text.
-use Rattle.std.specs.Prelude.{ℕ, Bool, true, false, ◌&&◌, ◌||◌, not, ◌==◌, max, if◌then◌else◌, List, [], ◌∷◌, length, slice_index}
+use Rattle.std.specs.Prelude.{ℕ, true, false, ◌&&◌, ◌||◌, not, ◌==◌, max, if◌then◌else◌, List, [], ◌∷◌, length, slice_index}
 use Rattle.mlir_lexer.specs.Body.{effect_of}
 use Rattle.mlir_attributes.specs.declared.nesting.Scan.{Scan}
 pub use Rattle.mlir_attributes.specs.Brackets.{innermost, closers_by}

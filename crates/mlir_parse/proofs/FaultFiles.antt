@@ -1,5 +1,5 @@
 -- The faults of module files.
-use Rattle.std.proofs.Common.{◌≡◌, ℕ, zero, suc, ◌≤◌, Bool, true, false, cond, List, [], ◌∷◌, ◌++◌, length, refl, subst, arith, Result, Ok, Err}
+use Rattle.std.proofs.Common.{◌≡◌, ℕ, zero, suc, ◌≤◌, Bool, true, false, cond, List, [], ◌∷◌, ◌++◌, length, refl, subst, Result, Ok, Err}
 use Rattle.std.specs.Prelude.{◌==◌}
 use Rattle.std.specs.Option.{is_some}
 use Rattle.std.specs.Str.Lossy.{utf8_valid_len}
@@ -13,7 +13,7 @@ use Rattle.mlir_attributes.specs.declared.fault.ModKind.TheVariants as faults
 use Rattle.mlir_attributes.specs.declared.aliases.Alias.{Alias}
 use Rattle.mlir_parse.specs.declared.syn.Syn.{Syn}
 use Rattle.mlir_attributes.specs.Faults.{is_spelling_fault}
-use Rattle.mlir_attributes.specs.Place.{Place, fault, left, sees, start, start_of, next, spelling}
+use Rattle.mlir_attributes.specs.Place.{fault, left, sees, start, start_of, next, spelling}
 use Rattle.mlir_attributes.specs.Input.{Outcome, Gives, expect, lift}
 use Rattle.mlir_attributes.specs.Aliases.{find, has_point}
 use Rattle.mlir_attributes.specs.Types.{ty, max_open}
@@ -24,7 +24,7 @@ use Rattle.mlir_parse.specs.Operations.{an_operation_in}
 use Rattle.mlir_parse.specs.ModuleFile as read
 use Rattle.mlir_parse.specs.FileGrammar.{IsModuleFile}
 use Rattle.mlir_parse.proofs.FilesComplete.{file_complete}
-use Rattle.mlir_attributes.proofs.FaultSteps.{Reading, IsIn, Judged, Good, Told, start_within, next_in, refused, lifted, expected, both, mapped, either, location_judged}
+use Rattle.mlir_attributes.proofs.FaultSteps.{Reading, Judged, Good, Told, start_within, next_in, refused, lifted, expected, both, mapped, either, location_judged}
 use Rattle.mlir_attributes.proofs.FaultTypes.{ty_judged}
 use Rattle.mlir_attributes.proofs.FaultAttrs.{attr_kind, attr_judged}
 use Rattle.mlir_attributes.proofs.FaultTexts.{reading_of, first_in, call_fault, IsToldFault}

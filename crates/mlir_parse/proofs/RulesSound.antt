@@ -1,14 +1,9 @@
 -- Dictionaries, function types, locations and regions that are read are spelled so.
-use Rattle.std.proofs.Common.{◌≡◌, ℕ, zero, suc, ◌+◌, ◌-◌, ◌<◌, ◌≤◌, Bool, true, false, cond, List, [], ◌∷◌, length, refl, ap, sym, subst, ◌∙◌, inl, inr, Result, Ok, Err, arith}
-use Rattle.std.specs.Prelude.{◌==◌, nat_le, map, Option, Some, None, codes}
+use Rattle.std.proofs.Common.{◌≡◌, ℕ, zero, suc, ◌-◌, Bool, true, false, cond, List, [], ◌∷◌, refl, sym, subst, ◌∙◌, inl, inr, Result, Ok, Err}
+use Rattle.std.specs.Prelude.{map, codes}
 use Rattle.std.specs.Str.{bytes_eq}
 use Rattle.std.proofs.lemmas.Slice.Eq.{bytes_eq-Decides}
 use Rattle.std.proofs.lemmas.Bool.{and_parts}
-use Rattle.std.specs.Prelude.{drop, slice_index}
-use Rattle.std.specs.Option.{option_map_or}
-use Rattle.std.proofs.lemmas.Bool.Decides.{nat_tests}
-use Rattle.text_scan.specs.Strings.{string_end}
-use Rattle.text_scan.proofs.StringLaws.{string_found}
 use Rattle.mlir_lexer.specs.declared.body.BodyFault.{BodyFault}
 use Rattle.mlir_lexer.specs.declared.body.BodyFault.TheVariants as bodies
 use Rattle.mlir_lexer.specs.declared.token.TokenKind.TheVariants as k
@@ -22,10 +17,10 @@ use Rattle.mlir_attributes.specs.Grammar.{IsSpelled}
 use Rattle.mlir_attributes.specs.AttributeGrammar.{AreMore, IsEntryName, IsAttr}
 use Rattle.mlir_parse.specs.Lists.{AreListed}
 use Rattle.mlir_attributes.specs.Steps as steps
-use Rattle.mlir_attributes.specs.Steps.{max_parts, opening, bracketed, listed, counted_items, balanced, take_slot, has_slot, one_slot, after_slot}
+use Rattle.mlir_attributes.specs.Steps.{opening, bracketed, listed, balanced}
 use Rattle.mlir_parse.specs.Entries.{Placed, is_placed, put_placed, syn_entry, placed_entries, all_placed_entries, dictionary, dictionary_inside, maybe_dictionary, maybe_properties}
 use Rattle.mlir_parse.specs.OperationGrammar.{IsLocation, IsMaybeLocation, IsEntryAt, Fills, IsDictionary, AreAttributes, AreProperties}
-use Rattle.mlir_attributes.proofs.BracketEnds.{not_le, balanced_within}
+use Rattle.mlir_attributes.proofs.BracketEnds.{balanced_within}
 use Rattle.mlir_attributes.proofs.Tokens.{bind_ok, same_ok, IsWithin, taken, not_seen, eaten, left_alone, spelled_text, spelled_sees}
 use Rattle.mlir_attributes.proofs.TypesSound.{Finds}
 use Rattle.mlir_attributes.proofs.AttrsSound.{attr_sound, name_sound, value_sound as behind_sound}

@@ -11,20 +11,20 @@ ghost use Rattle.mlir_attributes.specs.Aliases.{find};
 ghost use Rattle.mlir_parse.specs.ModuleFile as spec;
 ghost use Rattle.mlir_parse.specs.FileGrammar.{IsModuleFile};
 
+use crate::operations::{location, operation, sees_loc};
+use crate::syn::{Syn, SynOp};
 use mlir_attributes::aliases::{Alias, Aliases, Meaning, has_point};
 use mlir_attributes::attributes::attr;
 use mlir_attributes::fault::{ModFault, ModKind};
 use mlir_attributes::nesting::nesting;
-use crate::operations::{location, operation, sees_loc};
 use mlir_attributes::reader::{MAX_OPEN, Reader, Refused, fail_at};
-use crate::syn::{Syn, SynOp};
 use mlir_attributes::types::ty;
 use mlir_lexer::TokenKind;
 use mlir_print::{attr_text, ty_text};
 use mlir_tree::refusal::Refusal;
 use mlir_tree::text::Text;
-use simdutf8::compat::from_utf8;
 use shared_text::SharedText;
+use simdutf8::compat::from_utf8;
 use sqlite_items::Items;
 use std::alloc::{AllocError, Global};
 

@@ -10,12 +10,12 @@ ghost use Rattle.mlir_attributes.specs.Steps as steps;
 ghost use Rattle.mlir_parse.specs.Operations as spec;
 ghost use Rattle.mlir_lexer.specs.declared.token.TokenKind.TheVariants.{RightBrace};
 
+use crate::placed::{maybe_dictionary, maybe_properties};
+use crate::syn::{SynArg, SynEntry, SynOp, SynRegion, SynResult, SynUse};
 use mlir_attributes::aliases::Aliases;
 use mlir_attributes::fault::ModKind;
 use mlir_attributes::numbers::{magnitude, token_value};
-use crate::placed::{maybe_dictionary, maybe_properties};
 use mlir_attributes::reader::{MAX_PARTS, Reader, Refused, fail_at, room_for_one};
-use crate::syn::{SynArg, SynEntry, SynOp, SynRegion, SynResult, SynUse};
 use mlir_attributes::types::ty;
 use mlir_lexer::TokenKind;
 use mlir_tree::refusal::Refusal;

@@ -5,11 +5,11 @@ ghost use Rattle.mlir_attributes.specs.Input.{Reads};
 ghost use Rattle.mlir_attributes.specs.Attributes.{attr};
 ghost use Rattle.mlir_parse.specs.Entries as spec;
 
+use crate::syn::SynEntry;
 use mlir_attributes::aliases::Aliases;
 use mlir_attributes::attributes::{entry_name, entry_value};
 use mlir_attributes::fault::ModKind;
 use mlir_attributes::reader::{Reader, Refused, fail_at, room_for_one};
-use crate::syn::SynEntry;
 use mlir_lexer::TokenKind;
 use mlir_tree::attr::Attr;
 use shared_text::SharedText;
