@@ -20,6 +20,7 @@ use mlir_tree::value::Val;
 use native_set::native::Kind;
 use pdll_expand::demand::{Demand, NamedExpr, Parts};
 use pdll_expand::expr::Expr;
+use shared_list::Shared;
 use sqlite_items::Items;
 use std::alloc::{AllocError, Global};
 
@@ -134,7 +135,8 @@ fn types_of(
             None => return Ok(None),
         }
     }
-    Ok(Some(types))
+    let all = Shared::new(alloc, types)?;
+    Ok(Some(all))
 }
 
 /// What a thing has for a type.

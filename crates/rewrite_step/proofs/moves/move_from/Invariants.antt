@@ -1,6 +1,6 @@
 use Rattle.std.proofs.Common.{length}
-use Rattle.row_edits.proofs.Turned.{IsMoved}
-use Rattle.row_edits.proofs.moves.move_from.Given as goal
+use Rattle.rewrite_step.proofs.Turned.{IsMoved}
+use Rattle.rewrite_step.proofs.moves.move_from.Given as goal
 
 abbrev pub invariant-loop-rows : goal.invariant-loop-rows
 invariant-loop-rows l = IsMoved l.fn.rows l.fn.moved l.rows l.moved l.at
