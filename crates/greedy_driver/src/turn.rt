@@ -24,6 +24,7 @@ use rewrite_step::refresh::refresh;
 use rewrite_step::step::{made_numbers, removed_numbers, step};
 use rewrite_step::stop::Stop;
 use row_matcher::thing::Thing;
+use shared_text::SharedText;
 use sqlite_items::Items;
 use std::alloc::{AllocError, Global};
 use std::mem::replace;
@@ -63,7 +64,7 @@ fn told(
 {
     let made = made_numbers(alloc, before, after)?;
     let removed = removed_numbers(alloc, before, after)?;
-    let name = Items::from_slice(alloc, pattern.name)?;
+    let name = SharedText::from_slice(alloc, pattern.name)?;
     numbers_rise();
     Ok(StepRec {
         pattern: hit.pattern,
