@@ -9,12 +9,12 @@ ghost use Rattle.pdll_patterns.specs.View.{pattern_of};
 ghost use Rattle.greedy_driver.specs.Course.{course_of};
 
 use crate::turn::{Turn, go_on, no_rows};
-use row_index::index::RowIndex;
 use mlir_tree::rows::Rows;
 use pdll_patterns::pattern::{Pattern, patterns};
 use pdll_types::laws::accepted_files_are_determined;
 use pdll_types::typed::Typed;
 use rewrite_model::run::Run;
+use row_index::index::RowIndex;
 use sqlite_items::Items;
 use std::alloc::{AllocError, Global};
 

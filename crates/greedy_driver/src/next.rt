@@ -6,9 +6,9 @@ ghost use Rattle.row_index.specs.Indexing.{Indexes};
 ghost use Rattle.pdll_patterns.specs.View.{pattern_of};
 ghost use Rattle.greedy_driver.specs.Found.{BestOf, IsFirst, benefit_at, is_as_good};
 
-use row_index::index::RowIndex;
 use mlir_tree::row::Row;
 use pdll_patterns::pattern::Pattern;
+use row_index::index::RowIndex;
 use row_matcher::matching::match_at;
 use row_matcher::thing::Thing;
 use sqlite_items::Items;

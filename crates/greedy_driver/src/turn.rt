@@ -14,7 +14,6 @@ ghost use Rattle.greedy_driver.specs.Found.{IsFirst};
 ghost use Rattle.greedy_driver.specs.Course.{IsTurn};
 
 use crate::next::{Found, next};
-use row_index::index::RowIndex;
 use mlir_tree::refusal::Refusal;
 use mlir_tree::rows::Rows;
 use pdll_patterns::pattern::Pattern;
@@ -23,6 +22,7 @@ use rewrite_model::run::{BoundKind, Broken, Ending, Hit, StepRec};
 use rewrite_step::refresh::refresh;
 use rewrite_step::step::{made_numbers, removed_numbers, step};
 use rewrite_step::stop::Stop;
+use row_index::index::RowIndex;
 use row_matcher::thing::Thing;
 use shared_text::SharedText;
 use sqlite_items::Items;

@@ -52,7 +52,7 @@ pub fn move_closers(closers: &mut Items<u8>, effect: Effect, b: u8) -> Result<()
 }
 
 /// Goes behind a byte, before this next byte.
-#[tactic(auto, unfolding(crate::specs::ModuleFile::scan_byte))]
+#[tactic(auto, unfolding(crate::specs::Nesting::scan_byte))]
 fn scan_byte(scan: &mut Scan, b: u8, next: u8) -> Result<(), AllocError>
     ensures { OnOk result (scan.new ≡ spec.scan_byte scan.old b next) }
 {
@@ -76,7 +76,7 @@ fn scan_byte(scan: &mut Scan, b: u8, next: u8) -> Result<(), AllocError>
 }
 
 /// The most brackets that are open at once in a text. Those in strings don't count.
-#[tactic(auto, unfolding(crate::specs::ModuleFile::scan_text))]
+#[tactic(auto, unfolding(crate::specs::Nesting::scan_text))]
 pub fn nesting(alloc: Global, text: &[u8]) -> Result<usize, AllocError>
     ensures { IfOk result (λ n. n ≡ spec.nesting text.now) }
 {

@@ -99,7 +99,7 @@ fn meaning(
 }
 
 /// A definition, which begins with the next token, `#` or `!` and a name.
-#[tactic(auto, using(crate::proofs::Steps::lifted), unfolding(crate::specs::ModuleFile::alias_definition))]
+#[tactic(auto, using(mlir_attributes::proofs::Steps::lifted), unfolding(crate::specs::ModuleFile::alias_definition))]
 fn alias_definition(
     alloc: Global,
     reader: &mut Reader<'_>,
@@ -151,7 +151,7 @@ fn file(alloc: Global, bytes: &[u8]) -> Result<Syn, Refused>
     Ok(Syn { ops })
 }
 
-#[tactic(auto, unfolding(crate::specs::ModuleFile::module_file), using(crate::proofs::Utf8::all_utf8, crate::proofs::Utf8::not_utf8))]
+#[tactic(auto, unfolding(crate::specs::ModuleFile::module_file), using(mlir_attributes::proofs::Utf8::all_utf8, mlir_attributes::proofs::Utf8::not_utf8))]
 fn whole(alloc: Global, bytes: &[u8]) -> Result<Syn, Refused>
     ensures { Gives result (spec.module_file bytes.now) }
 {

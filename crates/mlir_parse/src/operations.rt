@@ -31,7 +31,7 @@ use text_scan::strings::read_string;
 // ---- locations
 
 /// Whether the next token is the word `loc`.
-#[tactic(auto, unfolding(crate::specs::Steps::sees_loc))]
+#[tactic(auto, unfolding(mlir_attributes::specs::Steps::sees_loc))]
 pub fn sees_loc(reader: &Reader<'_>) -> bool
     ensures { result ≡ steps.sees_loc reader.now }
 {
@@ -39,7 +39,7 @@ pub fn sees_loc(reader: &Reader<'_>) -> bool
 }
 
 /// A location behind its word.
-#[tactic(auto, unfolding(crate::specs::Steps::location))]
+#[tactic(auto, unfolding(mlir_attributes::specs::Steps::location))]
 pub fn location(reader: &mut Reader<'_>, room: u32) -> Result<(), Refused>
     ensures { Reads (steps.location room reader.old) result reader.new }
 {
@@ -48,7 +48,7 @@ pub fn location(reader: &mut Reader<'_>, room: u32) -> Result<(), Refused>
 }
 
 /// A location, where one is written.
-#[tactic(auto, unfolding(crate::specs::Steps::maybe_location))]
+#[tactic(auto, unfolding(mlir_attributes::specs::Steps::maybe_location))]
 fn maybe_location(reader: &mut Reader<'_>, room: u32) -> Result<(), Refused>
     ensures { Reads (steps.maybe_location room reader.old) result reader.new }
 {
@@ -83,7 +83,7 @@ fn count_of(at: usize, number: Option<u128>) -> Result<u16, Refused>
     }
 }
 
-#[tactic(auto, using(crate::proofs::Steps::lifted), unfolding(crate::specs::Operations::count, crate::specs::Operations::count_here))]
+#[tactic(auto, using(mlir_attributes::proofs::Steps::lifted), unfolding(crate::specs::Operations::count, crate::specs::Operations::count_here))]
 fn count(reader: &mut Reader<'_>) -> Result<u16, Refused>
     ensures { Reads (spec.count reader.old) result reader.new }
 {
@@ -119,7 +119,7 @@ fn a_result(alloc: Global, reader: &mut Reader<'_>) -> Result<SynResult, Refused
     Ok(SynResult { at, name, count })
 }
 
-#[tactic(auto, unfolding(crate::specs::Input::separated))]
+#[tactic(auto, unfolding(mlir_attributes::specs::Input::separated))]
 fn result_items(alloc: Global, reader: &mut Reader<'_>) -> Result<Items<SynResult>, Refused>
     ensures { Reads (items spec.a_result reader.old) result reader.new }
 {
@@ -210,7 +210,7 @@ fn a_use(alloc: Global, reader: &mut Reader<'_>, before: usize) -> Result<SynUse
     Ok(SynUse { at, name, index })
 }
 
-#[tactic(auto, unfolding(crate::specs::Steps::counted))]
+#[tactic(auto, unfolding(mlir_attributes::specs::Steps::counted))]
 fn use_items(alloc: Global, reader: &mut Reader<'_>) -> Result<Items<SynUse>, Refused>
     ensures { Reads (steps.counted_items spec.a_use reader.old) result reader.new }
 {
@@ -225,7 +225,7 @@ fn use_items(alloc: Global, reader: &mut Reader<'_>) -> Result<Items<SynUse>, Re
     Err(reader.refuse())
 }
 
-#[tactic(auto, unfolding(crate::specs::Steps::listed))]
+#[tactic(auto, unfolding(mlir_attributes::specs::Steps::listed))]
 fn operands_inside(
     alloc: Global,
     reader: &mut Reader<'_>,
@@ -239,7 +239,7 @@ fn operands_inside(
     use_items(alloc, reader)
 }
 
-#[tactic(auto, unfolding(crate::specs::Operations::operands, crate::specs::Steps::bracketed))]
+#[tactic(auto, unfolding(crate::specs::Operations::operands, mlir_attributes::specs::Steps::bracketed))]
 fn operands(alloc: Global, reader: &mut Reader<'_>, room: u32) -> Result<Items<SynUse>, Refused>
     ensures { Reads (spec.operands room reader.old) result reader.new }
 {
@@ -306,7 +306,7 @@ pub struct FunctionType {
     pub to: TyList,
 }
 
-#[tactic(auto, unfolding(crate::specs::Input::separated))]
+#[tactic(auto, unfolding(mlir_attributes::specs::Input::separated))]
 fn operand_type_items(
     alloc: Global,
     reader: &mut Reader<'_>,
@@ -325,7 +325,7 @@ fn operand_type_items(
     Err(reader.refuse())
 }
 
-#[tactic(auto, unfolding(crate::specs::Steps::listed))]
+#[tactic(auto, unfolding(mlir_attributes::specs::Steps::listed))]
 fn operand_types_inside(
     alloc: Global,
     reader: &mut Reader<'_>,
@@ -340,7 +340,7 @@ fn operand_types_inside(
     operand_type_items(alloc, reader, aliases, room)
 }
 
-#[tactic(auto, unfolding(crate::specs::Operations::operand_types, crate::specs::Steps::bracketed))]
+#[tactic(auto, unfolding(crate::specs::Operations::operand_types, mlir_attributes::specs::Steps::bracketed))]
 fn operand_types(
     alloc: Global,
     reader: &mut Reader<'_>,
@@ -386,7 +386,7 @@ fn result_type(
     Err(first_fault(at, read))
 }
 
-#[tactic(auto, unfolding(crate::specs::Steps::counted))]
+#[tactic(auto, unfolding(mlir_attributes::specs::Steps::counted))]
 fn result_type_items(
     alloc: Global,
     reader: &mut Reader<'_>,
@@ -406,7 +406,7 @@ fn result_type_items(
     Err(reader.refuse())
 }
 
-#[tactic(auto, unfolding(crate::specs::Steps::listed))]
+#[tactic(auto, unfolding(mlir_attributes::specs::Steps::listed))]
 fn result_types_inside(
     alloc: Global,
     reader: &mut Reader<'_>,
@@ -421,7 +421,7 @@ fn result_types_inside(
     result_type_items(alloc, reader, aliases, room)
 }
 
-#[tactic(auto, unfolding(crate::specs::Steps::bracketed))]
+#[tactic(auto, unfolding(mlir_attributes::specs::Steps::bracketed))]
 fn result_types_in_brackets(
     alloc: Global,
     reader: &mut Reader<'_>,
@@ -613,7 +613,7 @@ fn argument(
     argument_here(alloc, reader, aliases, room)
 }
 
-#[tactic(auto, unfolding(crate::specs::Steps::counted))]
+#[tactic(auto, unfolding(mlir_attributes::specs::Steps::counted))]
 fn argument_items(
     alloc: Global,
     reader: &mut Reader<'_>,
@@ -633,7 +633,7 @@ fn argument_items(
     Err(reader.refuse())
 }
 
-#[tactic(auto, unfolding(crate::specs::Steps::listed))]
+#[tactic(auto, unfolding(mlir_attributes::specs::Steps::listed))]
 fn arguments_inside(
     alloc: Global,
     reader: &mut Reader<'_>,
@@ -648,7 +648,7 @@ fn arguments_inside(
     argument_items(alloc, reader, aliases, room)
 }
 
-#[tactic(auto, unfolding(crate::specs::Operations::maybe_arguments, crate::specs::Steps::bracketed))]
+#[tactic(auto, unfolding(crate::specs::Operations::maybe_arguments, mlir_attributes::specs::Steps::bracketed))]
 fn maybe_arguments(
     alloc: Global,
     reader: &mut Reader<'_>,
@@ -704,7 +704,7 @@ fn inner_operation(
 }
 
 #[cycle(operation)]
-#[tactic(auto, unfolding(crate::specs::Steps::many))]
+#[tactic(auto, unfolding(mlir_attributes::specs::Steps::many))]
 fn inner_operations(
     alloc: Global,
     reader: &mut Reader<'_>,
@@ -745,7 +745,7 @@ fn region_inside(
 
 /// A region, behind so many others of its operation.
 #[cycle(operation)]
-#[tactic(auto, unfolding(crate::specs::Operations::region, crate::specs::Steps::bracketed))]
+#[tactic(auto, unfolding(crate::specs::Operations::region, mlir_attributes::specs::Steps::bracketed))]
 fn region(
     alloc: Global,
     reader: &mut Reader<'_>,
@@ -766,7 +766,7 @@ fn region(
 }
 
 #[cycle(operation)]
-#[tactic(auto, unfolding(crate::specs::Steps::counted))]
+#[tactic(auto, unfolding(mlir_attributes::specs::Steps::counted))]
 fn region_items(
     alloc: Global,
     reader: &mut Reader<'_>,
@@ -788,7 +788,7 @@ fn region_items(
 }
 
 #[cycle(operation)]
-#[tactic(auto, unfolding(crate::specs::Operations::maybe_regions, crate::specs::Steps::bracketed))]
+#[tactic(auto, unfolding(crate::specs::Operations::maybe_regions, mlir_attributes::specs::Steps::bracketed))]
 fn maybe_regions(
     alloc: Global,
     reader: &mut Reader<'_>,

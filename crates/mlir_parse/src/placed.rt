@@ -88,7 +88,7 @@ fn placed_entries(
     Err(reader.refuse())
 }
 
-#[tactic(auto, unfolding(crate::specs::Steps::listed))]
+#[tactic(auto, unfolding(mlir_attributes::specs::Steps::listed))]
 fn dictionary_inside(
     alloc: Global,
     reader: &mut Reader<'_>,
@@ -104,7 +104,7 @@ fn dictionary_inside(
 }
 
 /// A dictionary.
-#[tactic(auto, unfolding(crate::specs::Entries::dictionary, crate::specs::Steps::bracketed))]
+#[tactic(auto, unfolding(crate::specs::Entries::dictionary, mlir_attributes::specs::Steps::bracketed))]
 fn dictionary(
     alloc: Global,
     reader: &mut Reader<'_>,
@@ -136,7 +136,7 @@ pub fn maybe_dictionary(
 }
 
 /// A dictionary in angles, where one is written.
-#[tactic(auto, unfolding(crate::specs::Entries::maybe_properties, crate::specs::Steps::bracketed))]
+#[tactic(auto, unfolding(crate::specs::Entries::maybe_properties, mlir_attributes::specs::Steps::bracketed))]
 pub fn maybe_properties(
     alloc: Global,
     reader: &mut Reader<'_>,

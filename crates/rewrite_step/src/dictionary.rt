@@ -25,7 +25,11 @@ fn put_entry(alloc: Global, found: &mut Named, name: &[u8], value: Attr) -> Resu
 }
 
 // Puts entries in their places, the last first.
-fn put_entries(alloc: Global, found: &mut Named, entries: &mut Items<(Text, Attr)>) -> Result<(), AllocError>
+fn put_entries(
+    alloc: Global,
+    found: &mut Named,
+    entries: &mut Items<(Text, Attr)>,
+) -> Result<(), AllocError>
     ensures { OnOk result (spec.named found.new ≡ put_all entries.old (spec.named found.old)) }
 {
     while let Some((name, value)) = entries.pop() {

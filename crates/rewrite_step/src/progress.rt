@@ -166,7 +166,10 @@ impl Progress {
     {
         match self.part(alloc, start, x)? {
             Some(Thing::Value(value)) => Ok(found.push(value)?),
-            Some(Thing::Values(values)) => Ok(found.append(Items::from_slice(alloc, values.as_slice())?)?),
+            Some(Thing::Values(values)) => Ok(found.append(Items::from_slice(
+                alloc,
+                values.as_slice(),
+            )?)?),
             _ => Err(breaks(Break::Gone)),
         }
     }
@@ -235,7 +238,10 @@ impl Progress {
         ensures { Ends (λ _. found.new) (spec.or_break Gone (things.joined (Some found.old) (option_map (λ e. e ∷ []) (spec.entry_at (start_of start.now) (progress_of self.now) (named_part_of x.now))))) result }
     {
         match self.part(alloc, start, x.part)? {
-            Some(Thing::Attr(value)) => Ok(found.push((SharedText::from_slice(alloc, x.name)?, value))?),
+            Some(Thing::Attr(value)) => Ok(found.push((
+                SharedText::from_slice(alloc, x.name)?,
+                value,
+            ))?),
             _ => Err(breaks(Break::Gone)),
         }
     }

@@ -16,14 +16,14 @@ ghost use Rattle.rewrite_step.specs.Marking.{marked, is_marked, was_removed, Are
 
 use crate::progress::{Progress, Start};
 use crate::stop::{Stop, breaks};
-use row_index::index::RowIndex;
-use row_index::well_formed_by;
 use mlir_tree::refusal::Refusal;
 use mlir_tree::row::{IdList, Row};
 use mlir_tree::rows::Rows;
 use pdll_patterns::action::Action;
 use rewrite_model::laws::rewrites_keep_layout;
 use rewrite_model::run::Break;
+use row_index::index::RowIndex;
+use row_index::well_formed_by;
 use row_matcher::thing::Thing;
 use sqlite_items::Items;
 use std::alloc::{AllocError, Global};

@@ -24,11 +24,11 @@ use crate::matching::holding::holds;
 use crate::matching::learning::told;
 use crate::matching::naming::may_be_root;
 use crate::thing::{Seen, Thing};
-use row_index::index::{RowIndex, row_of};
 use mlir_tree::row::Row;
 use mlir_tree::value::Val;
 use native_set::native::Kind;
 use pdll_expand::demand::Demand;
+use row_index::index::{RowIndex, row_of};
 use sqlite_items::Items;
 use std::alloc::{AllocError, Global};
 

@@ -8,11 +8,11 @@ ghost use Rattle.row_index.specs.Indexing.{Indexes};
 ghost use Rattle.row_matcher.specs.View.{seen_of};
 
 use crate::thing::Seen;
-use row_index::index::{RowIndex, row_of};
 use mlir_tree::row::{Home, Row};
 use mlir_tree::value::Val;
 use native_set::arithmetic::{is_int, is_zero};
 use native_set::native::Constraint;
+use row_index::index::{RowIndex, row_of};
 
 /// Whether the values are the same.
 pub fn is_value(v: Val, w: Val) -> bool

@@ -9,11 +9,11 @@ ghost use Rattle.row_index.specs.Indexing.{Indexes};
 ghost use Rattle.row_matcher.specs.View.{thing_of, seen_of};
 
 use crate::thing::{Seen, Thing};
-use row_index::index::{RowIndex, row_of};
 use mlir_tree::row::Row;
 use mlir_tree::ty::Ty;
 use mlir_tree::value::Val;
 use pdll_expand::expr::Expr;
+use row_index::index::{RowIndex, row_of};
 
 /// What a number was given.
 #[tactic(auto, using(crate::proofs::Fitting::thing_there, crate::proofs::Fitting::thing_nowhere))]

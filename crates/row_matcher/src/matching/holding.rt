@@ -16,13 +16,13 @@ use crate::matching::naming::is_named;
 use crate::matching::parts::has_parts;
 use crate::natives::{holds_of_one, holds_of_two};
 use crate::thing::{Seen, Thing};
-use row_index::index::RowIndex;
 use mlir_tree::row::Row;
 use mlir_tree::ty::Ty;
 use mlir_tree::value::Val;
 use native_set::native::Constraint;
 use pdll_expand::demand::{Demand, Parts};
 use pdll_expand::expr::Expr;
+use row_index::index::RowIndex;
 
 /// Whether a type is there, and is this one.
 fn is_type(there: Option<&Ty>, ty: &Ty) -> bool

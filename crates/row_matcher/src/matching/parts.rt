@@ -13,7 +13,6 @@ ghost use Rattle.row_matcher.specs.Behind.{Leaves};
 
 use crate::matching::denoting::{denoted, is};
 use crate::thing::{Seen, Thing};
-use row_index::index::RowIndex;
 use mlir_tree::attr::Attr;
 use mlir_tree::row::Row;
 use mlir_tree::text::Text;
@@ -21,6 +20,7 @@ use mlir_tree::ty::{Ty, equal_tys};
 use mlir_tree::value::{Val, equal_vals};
 use pdll_expand::demand::{NamedExpr, Parts};
 use pdll_expand::expr::Expr;
+use row_index::index::RowIndex;
 
 // ---- operands
 
