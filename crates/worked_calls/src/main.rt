@@ -1,0 +1,30 @@
+//! Calls of the libraries, each with what it answers.
+#![tactic(auto)]
+
+mod answers;
+mod lists;
+mod outside;
+mod texts;
+
+use crate::answers::Answers;
+use rw_outside::{StreamSink, put_all};
+use std::alloc::AllocError;
+use std::process::ExitCode;
+
+fn tell_data(answers: &mut Answers) -> Result<(), AllocError> {
+    outside::tell(answers)?;
+    lists::tell(answers)?;
+    texts::tell(answers)
+}
+
+fn main(rt: HostRuntime) -> ExitCode {
+    let mut answers = Answers::new(rt.alloc());
+    let told = tell_data(&mut answers).is_ok() && outside::tell_real(&mut answers, &rt).is_ok();
+    let mut out = StreamSink::new(rt.stdout());
+    let put = put_all(&mut out, &answers.text);
+    if told && put.is_ok() {
+        ExitCode::SUCCESS
+    } else {
+        ExitCode::FAILURE
+    }
+}
