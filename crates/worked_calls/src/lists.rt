@@ -7,21 +7,21 @@ use std::alloc::{AllocError, Global};
 
 fn tell_empty(answers: &mut Answers) -> Result<(), AllocError> {
     let list: Shared<u8> = Shared::empty();
-    answers.tell_value("Shared::empty", &list.as_slice())?;
-    answers.tell_value("Shared::copy of it", &list.copy()?.as_slice())?;
-    answers.tell_value("Shared::is_empty of it", &list.is_empty())?;
+    answers.tell_value("Shared::empty()", &list.as_slice())?;
+    answers.tell_value("Shared::copy([])", &list.copy()?.as_slice())?;
+    answers.tell_value("Shared::is_empty([])", &list.is_empty())?;
     let list: Shared<u8> = Shared::new(answers.alloc, Items::new(answers.alloc))?;
-    answers.tell_value("Shared::new of no element", &list.as_slice())
+    answers.tell_value("Shared::new([])", &list.as_slice())
 }
 
 fn tell_two(answers: &mut Answers) -> Result<(), AllocError> {
     let list = Shared::from_slice(answers.alloc, &[7, 8])?;
-    answers.tell_value("Shared::from_slice of 7 and 8", &list.as_slice())?;
-    answers.tell_value("Shared::copy of them", &list.copy()?.as_slice())?;
-    answers.tell_value("Shared::len of them", &list.len())?;
-    answers.tell_value("Shared::is_empty of them", &list.is_empty())?;
-    answers.tell_value("Shared::get of them, 1", &list.get(1))?;
-    answers.tell_value("Shared::get of them, 2", &list.get(2))
+    answers.tell_value("Shared::from_slice([7, 8])", &list.as_slice())?;
+    answers.tell_value("Shared::copy([7, 8])", &list.copy()?.as_slice())?;
+    answers.tell_value("Shared::len([7, 8])", &list.len())?;
+    answers.tell_value("Shared::is_empty([7, 8])", &list.is_empty())?;
+    answers.tell_value("Shared::get([7, 8], 1)", &list.get(1))?;
+    answers.tell_value("Shared::get([7, 8], 2)", &list.get(2))
 }
 
 // A list whose members take memory.
@@ -36,10 +36,10 @@ fn tell_nested(answers: &mut Answers) -> Result<(), AllocError> {
     let copied = nested(answers.alloc)?.copy()?;
     match copied.as_slice() {
         [first, second] => {
-            answers.tell_value("Shared::copy of a list of lists, first", &first.as_slice())?;
-            answers.tell_value("Shared::copy of a list of lists, second", &second.as_slice())
+            answers.tell_value("Shared::copy([[7, 8], []]), its first", &first.as_slice())?;
+            answers.tell_value("Shared::copy([[7, 8], []]), its second", &second.as_slice())
         }
-        _ => answers.tell("Shared::copy of a list of lists", b"no two"),
+        _ => answers.tell("Shared::copy([[7, 8], []])", b"other than two"),
     }
 }
 

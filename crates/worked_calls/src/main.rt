@@ -3,8 +3,13 @@
 
 mod answers;
 mod lists;
+mod natives;
 mod outside;
+mod printing;
+mod reading;
+mod recent;
 mod texts;
+mod tree;
 
 use crate::answers::Answers;
 use rw_outside::{StreamSink, put_all};
@@ -14,7 +19,11 @@ use std::process::ExitCode;
 fn tell_data(answers: &mut Answers) -> Result<(), AllocError> {
     outside::tell(answers)?;
     lists::tell(answers)?;
-    texts::tell(answers)
+    texts::tell(answers)?;
+    tree::tell(answers)?;
+    recent::tell(answers)?;
+    printing::tell(answers)?;
+    natives::tell(answers)
 }
 
 fn main(rt: HostRuntime) -> ExitCode {

@@ -33,16 +33,16 @@ fn tell_taken<H: Host>(
 fn tell_memory_files(answers: &mut Answers) -> Result<(), AllocError> {
     let alloc = answers.alloc;
     let mut host = MemHost::new(one_file(alloc)?, 2, Vec::new(alloc));
-    tell_taken(answers, &mut host, "take_all of MemHost, five, 4", "five", 4)?;
-    tell_taken(answers, &mut host, "take_all of MemHost, five, 5", "five", 5)?;
-    tell_taken(answers, &mut host, "take_all of MemHost, six, 5", "six", 5)
+    tell_taken(answers, &mut host, "take_all(MemHost, five, 4)", "five", 4)?;
+    tell_taken(answers, &mut host, "take_all(MemHost, five, 5)", "five", 5)?;
+    tell_taken(answers, &mut host, "take_all(MemHost, six, 5)", "six", 5)
 }
 
 fn tell_sure_files(answers: &mut Answers) -> Result<(), AllocError> {
     let mut host = SureHost::new(one_file(answers.alloc)?);
-    tell_taken(answers, &mut host, "take_all of SureHost, five, 4", "five", 4)?;
-    tell_taken(answers, &mut host, "take_all of SureHost, five, 5", "five", 5)?;
-    tell_taken(answers, &mut host, "take_all of SureHost, six, 5", "six", 5)
+    tell_taken(answers, &mut host, "take_all(SureHost, five, 4)", "five", 4)?;
+    tell_taken(answers, &mut host, "take_all(SureHost, five, 5)", "five", 5)?;
+    tell_taken(answers, &mut host, "take_all(SureHost, six, 5)", "six", 5)
 }
 
 fn tell_put<S: Sink>(
@@ -57,15 +57,15 @@ fn tell_put<S: Sink>(
 
 fn tell_memory_sink(answers: &mut Answers) -> Result<(), AllocError> {
     let mut sink = MemSink::new(answers.alloc, 3)?;
-    tell_put(answers, &mut sink, "put_all into MemSink of 3, ab", b"ab")?;
-    tell_put(answers, &mut sink, "put_all into MemSink of 3, cd", b"cd")?;
-    answers.tell("MemSink::bytes", sink.bytes())
+    tell_put(answers, &mut sink, "put_all(MemSink of 3, ab)", b"ab")?;
+    tell_put(answers, &mut sink, "put_all(MemSink of 3 with ab, cd)", b"cd")?;
+    answers.tell("MemSink::bytes()", sink.bytes())
 }
 
 fn tell_sure_sink(answers: &mut Answers) -> Result<(), AllocError> {
     let mut sink = SureSink::new();
-    tell_put(answers, &mut sink, "put_all into SureSink, ab", b"ab")?;
-    answers.tell_value("SureSink::totals", &sink.totals())
+    tell_put(answers, &mut sink, "put_all(SureSink, ab)", b"ab")?;
+    answers.tell_value("SureSink::totals()", &sink.totals())
 }
 
 fn put_pieces<S: Sink>(sink: &mut S) -> Result<(), Failed> {
@@ -86,8 +86,8 @@ fn gather(sink: &mut MemSink, held: &mut Vec<u8>) -> Result<(), Failed> {
 fn tell_gathered(answers: &mut Answers) -> Result<(), AllocError> {
     let mut sink = MemSink::new(answers.alloc, 100)?;
     let mut held = Vec::with_capacity(answers.alloc, 4)?;
-    answers.tell_value("BufferedSink::flush", &gather(&mut sink, &mut held))?;
-    answers.tell("what BufferedSink handed on", sink.bytes())
+    answers.tell_value("BufferedSink::flush()", &gather(&mut sink, &mut held))?;
+    answers.tell("MemSink::bytes() behind BufferedSink of 4", sink.bytes())
 }
 
 /// Tells of what is in memory.
@@ -101,18 +101,18 @@ pub fn tell(answers: &mut Answers) -> Result<(), AllocError> {
 
 fn tell_stream<R: Files>(answers: &mut Answers, rt: &R) -> Result<(), AllocError> {
     let Ok(made) = fs::create(rt, "made") else {
-        return answers.tell("fs::create of made", b"no");
+        return answers.tell("fs::create(made)", b"no");
     };
     let mut sink = StreamSink::new(made);
-    tell_put(answers, &mut sink, "put_all into StreamSink of made", b"written")
+    tell_put(answers, &mut sink, "put_all(StreamSink of made, written)", b"written")
 }
 
 fn tell_files<H: Host>(answers: &mut Answers, host: &mut H) -> Result<(), AllocError> {
-    tell_taken(answers, host, "take_all of FileHost, five, 5", "five", 5)?;
-    tell_taken(answers, host, "take_all of FileHost, five, 4", "five", 4)?;
-    tell_taken(answers, host, "take_all of FileHost, made, 7", "made", 7)?;
-    tell_taken(answers, host, "take_all of FileHost, made, 6", "made", 6)?;
-    tell_taken(answers, host, "take_all of FileHost, absent, 6", "absent", 6)
+    tell_taken(answers, host, "take_all(FileHost, five, 5)", "five", 5)?;
+    tell_taken(answers, host, "take_all(FileHost, five, 4)", "five", 4)?;
+    tell_taken(answers, host, "take_all(FileHost, made, 7)", "made", 7)?;
+    tell_taken(answers, host, "take_all(FileHost, made, 6)", "made", 6)?;
+    tell_taken(answers, host, "take_all(FileHost, absent, 6)", "absent", 6)
 }
 
 /// Tells of real files and of a real stream.

@@ -7,29 +7,41 @@ use std::alloc::AllocError;
 
 fn tell_empty(answers: &mut Answers) -> Result<(), AllocError> {
     let text = SharedText::empty();
-    answers.tell("SharedText::empty", text.as_slice())?;
-    answers.tell_value("SharedText::is_empty of it", &text.is_empty())
+    answers.tell("SharedText::empty()", text.as_slice())?;
+    answers.tell_value("SharedText::is_empty()", &text.is_empty())
 }
 
-fn tell_text(answers: &mut Answers, bytes: &[u8]) -> Result<(), AllocError> {
-    let text = SharedText::from_slice(answers.alloc, bytes)?;
-    answers.tell("SharedText::from_slice", text.as_slice())?;
-    answers.tell("SharedText::copy of it", text.copy()?.as_slice())?;
-    answers.tell_value("SharedText::len of it", &text.len())?;
-    answers.tell_value("SharedText::is_empty of it", &text.is_empty())
+fn tell_sizes(answers: &mut Answers, given: &str) -> Result<(), AllocError> {
+    let text = SharedText::from_slice(answers.alloc, given.as_bytes())?;
+    let call = format!(in answers.alloc; "SharedText::len({given})")?;
+    answers.tell_value(call.as_str(), &text.len())?;
+    let call = format!(in answers.alloc; "SharedText::is_empty({given})")?;
+    answers.tell_value(call.as_str(), &text.is_empty())
 }
 
-fn tell_kept(answers: &mut Answers, bytes: &[u8]) -> Result<(), AllocError> {
-    let items = Items::from_slice(answers.alloc, bytes)?;
+fn tell_copy(answers: &mut Answers, given: &str) -> Result<(), AllocError> {
+    let text = SharedText::from_slice(answers.alloc, given.as_bytes())?;
+    let call = format!(in answers.alloc; "SharedText::from_slice({given})")?;
+    answers.tell(call.as_str(), text.as_slice())?;
+    let call = format!(in answers.alloc; "SharedText::copy({given})")?;
+    answers.tell(call.as_str(), text.copy()?.as_slice())
+}
+
+fn tell_kept(answers: &mut Answers, given: &str) -> Result<(), AllocError> {
+    let items = Items::from_slice(answers.alloc, given.as_bytes())?;
     let text = SharedText::new(answers.alloc, items)?;
-    answers.tell("SharedText::new", text.as_slice())?;
-    answers.tell("SharedText::copy of it", text.copy()?.as_slice())
+    let call = format!(in answers.alloc; "SharedText::new({given})")?;
+    answers.tell(call.as_str(), text.as_slice())
+}
+
+fn tell_text(answers: &mut Answers, given: &str) -> Result<(), AllocError> {
+    tell_sizes(answers, given)?;
+    tell_copy(answers, given)?;
+    tell_kept(answers, given)
 }
 
 pub fn tell(answers: &mut Answers) -> Result<(), AllocError> {
     tell_empty(answers)?;
-    tell_text(answers, b"abcdefghijklmnopqrstuv")?;
-    tell_text(answers, b"abcdefghijklmnopqrstuvw")?;
-    tell_kept(answers, b"abcdefghijklmnopqrstuv")?;
-    tell_kept(answers, b"abcdefghijklmnopqrstuvw")
+    tell_text(answers, "abcdefghijklmnopqrstuv")?;
+    tell_text(answers, "abcdefghijklmnopqrstuvw")
 }
