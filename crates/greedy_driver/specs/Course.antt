@@ -1,7 +1,7 @@
 -- Runs as they are told, and one turn of a run.
 use Rattle.std.specs.Prelude.{◌≡◌, ℕ, ◌<◌, List, ◌++◌, Ok}
 use Rattle.mlir_tree.specs.declared.rows.Rows.{Rows}
-use Rattle.mlir_resolve.specs.Indexing.{Indexes}
+use Rattle.row_index.specs.Indexing.{Indexes}
 use Rattle.rewrite_model.specs.declared.run.Hit.{Hit}
 use Rattle.rewrite_model.specs.declared.run.Run.{Run}
 use Rattle.rewrite_model.specs.Taken.{Taken}

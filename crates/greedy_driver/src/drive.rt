@@ -9,7 +9,7 @@ ghost use Rattle.pdll_patterns.specs.View.{pattern_of};
 ghost use Rattle.greedy_driver.specs.Course.{course_of};
 
 use crate::turn::{Turn, go_on, no_rows};
-use mlir_resolve::index::RowIndex;
+use row_index::index::RowIndex;
 use mlir_tree::rows::Rows;
 use pdll_patterns::pattern::{Pattern, patterns};
 use pdll_types::laws::accepted_files_are_determined;

@@ -2,11 +2,11 @@
 
 ghost use Rattle.std.specs.Prelude.{◌≡◌, ◌<◌, ◌+◌, List, length, map, IfOk};
 ghost use Rattle.rewrite_model.specs.Determined.{AreDetermined};
-ghost use Rattle.mlir_resolve.specs.Indexing.{Indexes};
+ghost use Rattle.row_index.specs.Indexing.{Indexes};
 ghost use Rattle.pdll_patterns.specs.View.{pattern_of};
 ghost use Rattle.greedy_driver.specs.Found.{BestOf, IsFirst, benefit_at, is_as_good};
 
-use mlir_resolve::index::RowIndex;
+use row_index::index::RowIndex;
 use mlir_tree::row::Row;
 use pdll_patterns::pattern::Pattern;
 use row_matcher::matching::match_at;

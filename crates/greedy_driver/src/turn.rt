@@ -3,7 +3,7 @@
 ghost use Rattle.std.specs.Prelude.{◌≡◌, ◌<◌, ◌∷◌, length, map, slice_get, IfOk, Ok, Some, OnErr};
 ghost use Rattle.mlir_tree.specs.WellFormed.{IsWellFormed};
 ghost use Rattle.mlir_tree.specs.declared.refusal.Refusal.TheVariants.{Fault};
-ghost use Rattle.mlir_resolve.specs.Indexing.{Indexes};
+ghost use Rattle.row_index.specs.Indexing.{Indexes};
 ghost use Rattle.rewrite_model.specs.Determined.{AreDetermined};
 ghost use Rattle.rewrite_model.specs.Step.{step};
 ghost use Rattle.rewrite_model.specs.Running.{taken, ending_by, Reaches};
@@ -14,7 +14,7 @@ ghost use Rattle.greedy_driver.specs.Found.{IsFirst};
 ghost use Rattle.greedy_driver.specs.Course.{IsTurn};
 
 use crate::next::{Found, next};
-use mlir_resolve::index::RowIndex;
+use row_index::index::RowIndex;
 use mlir_tree::refusal::Refusal;
 use mlir_tree::rows::Rows;
 use pdll_patterns::pattern::Pattern;
@@ -24,6 +24,7 @@ use rewrite_step::refresh::refresh;
 use rewrite_step::step::{made_numbers, removed_numbers, step};
 use rewrite_step::stop::Stop;
 use row_matcher::thing::Thing;
+use shared_text::SharedText;
 use sqlite_items::Items;
 use std::alloc::{AllocError, Global};
 use std::mem::replace;
@@ -63,7 +64,7 @@ fn told(
 {
     let made = made_numbers(alloc, before, after)?;
     let removed = removed_numbers(alloc, before, after)?;
-    let name = Items::from_slice(alloc, pattern.name)?;
+    let name = SharedText::from_slice(alloc, pattern.name)?;
     numbers_rise();
     Ok(StepRec {
         pattern: hit.pattern,

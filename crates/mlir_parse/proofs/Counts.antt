@@ -7,39 +7,39 @@ use Rattle.mlir_lexer.proofs.Places.{goes_on}
 use Rattle.mlir_tree.specs.declared.refusal.Refusal.{Refusal}
 use Rattle.mlir_tree.specs.Tree.{Ty}
 use Rattle.mlir_tree.specs.Range.{AreRising}
-use Rattle.mlir_parse.specs.declared.fault.ModFault.{ModFault}
-use Rattle.mlir_parse.specs.declared.aliases.Alias.{Alias}
-use Rattle.mlir_parse.specs.declared.aliases.Meaning.{Meaning}
-use Rattle.mlir_parse.specs.declared.aliases.Meaning.TheVariants as meanings
+use Rattle.mlir_attributes.specs.declared.fault.ModFault.{ModFault}
+use Rattle.mlir_attributes.specs.declared.aliases.Alias.{Alias}
+use Rattle.mlir_attributes.specs.declared.aliases.Meaning.{Meaning}
+use Rattle.mlir_attributes.specs.declared.aliases.Meaning.TheVariants as meanings
 use Rattle.mlir_parse.specs.declared.syn.SynUse.{SynUse}
 use Rattle.mlir_parse.specs.declared.syn.SynArg.{SynArg}
 use Rattle.mlir_parse.specs.declared.syn.SynEntry.{SynEntry}
 use Rattle.mlir_parse.specs.declared.syn.Syn.{Syn}
-use Rattle.mlir_parse.specs.Faults.{is_spelling_fault}
-use Rattle.mlir_parse.specs.Place.{Place, start_of}
-use Rattle.mlir_parse.specs.Input.{Parser, Gives}
-use Rattle.mlir_parse.specs.Types.{ty, max_open}
-use Rattle.mlir_parse.specs.Attributes.{attr}
-use Rattle.mlir_parse.specs.Steps as steps
-use Rattle.mlir_parse.specs.Steps.{max_parts, max_operations, max_slots, one_slot, one_operation}
+use Rattle.mlir_attributes.specs.Faults.{is_spelling_fault}
+use Rattle.mlir_attributes.specs.Place.{Place, start_of}
+use Rattle.mlir_attributes.specs.Input.{Parser, Gives}
+use Rattle.mlir_attributes.specs.Types.{ty, max_open}
+use Rattle.mlir_attributes.specs.Attributes.{attr}
+use Rattle.mlir_attributes.specs.Steps as steps
+use Rattle.mlir_attributes.specs.Steps.{max_parts, max_operations, max_slots, one_slot, one_operation}
 use Rattle.mlir_parse.specs.Entries.{Placed, put_placed, syn_entry, maybe_dictionary, maybe_properties}
 use Rattle.mlir_parse.specs.Operations as read
 use Rattle.mlir_parse.specs.ModuleFile.{module_file}
 use Rattle.mlir_parse.specs.SynTree.{Head, Operation, operation, Regions, no_regions, region_then, Operations, no_operations, operation_then, operations}
-use Rattle.mlir_parse.specs.Grammar.{IsSpelled, IsMark}
-use Rattle.mlir_parse.specs.TypeGrammar.{IsTy, IsPlain}
-use Rattle.mlir_parse.specs.AttributeGrammar.{AreMore}
+use Rattle.mlir_attributes.specs.Grammar.{IsSpelled, IsMark}
+use Rattle.mlir_attributes.specs.TypeGrammar.{IsTy, IsPlain}
+use Rattle.mlir_attributes.specs.AttributeGrammar.{AreMore}
 use Rattle.mlir_parse.specs.Lists.{AreListed, InBrackets}
 use Rattle.mlir_parse.specs.OperationGrammar as grammar
 use Rattle.mlir_parse.specs.OperationGrammar.{IsSlot, IsMaybeIndex, IsOperand, AreOperands, IsOperationName, IsLocation, Fills, IsDictionary, AreProperties, AreAttributes, IsResultType, AreResultTypes, AreArguments, IsLabel, IsFront, IsBack, IsRegion, AreRegions, AreMoreRegions, AreOperations, IsOperation}
 use Rattle.mlir_parse.specs.FileGrammar.{IsMeaning, IsDefinition, AreDefinitions, AreFileOperations, IsModuleFile}
 use Rattle.mlir_parse.specs.Limits.{operation_count, operations_count, region_operation_count, operation_slots, operations_slots, region_slots, region_count, syn_names, IsOperationKept, AreRegionsKept, AreOperationsKept, KeepsLimits}
-use Rattle.mlir_parse.proofs.Rising.{names, rising_put}
-use Rattle.mlir_parse.proofs.FaultSteps.{Reading, IsIn, Judged, Good, location_judged, maybe_location_judged}
-use Rattle.mlir_parse.proofs.FaultTypes.{ty_judged}
-use Rattle.mlir_parse.proofs.FaultAttrs.{attr_kind, attr_judged}
+use Rattle.mlir_attributes.proofs.Rising.{names, rising_put}
+use Rattle.mlir_attributes.proofs.FaultSteps.{Reading, IsIn, Judged, Good, location_judged, maybe_location_judged}
+use Rattle.mlir_attributes.proofs.FaultTypes.{ty_judged}
+use Rattle.mlir_attributes.proofs.FaultAttrs.{attr_kind, attr_judged}
 use Rattle.mlir_parse.proofs.FaultOps.{spelling_kind, maybe_results_judged, maybe_dictionary_judged, maybe_properties_judged, operand_types_judged, maybe_label_judged}
-use Rattle.mlir_parse.proofs.TypesComplete.{ty_plain}
+use Rattle.mlir_attributes.proofs.TypesComplete.{ty_plain}
 use Rattle.mlir_parse.proofs.OpsCompleteParts.{results_read}
 use Rattle.mlir_parse.proofs.OpsCompleteRules.{location_reads, maybe_location_read, attr_read, ty_read, attributes_read, properties_read}
 use Rattle.mlir_parse.proofs.OpsCompleteTypes.{operand_types_read, label_read}

@@ -4,23 +4,23 @@ use Rattle.std.specs.Prelude.{nat_le, ◌==◌, ◌&&◌}
 use Rattle.mlir_lexer.specs.declared.token.TokenKind.{TokenKind}
 use Rattle.mlir_lexer.specs.declared.token.TokenKind.TheVariants as k
 use Rattle.mlir_tree.specs.Tree.{Ty, Attr}
-use Rattle.mlir_parse.specs.declared.fault.ModFault.{ModFault}
-use Rattle.mlir_parse.specs.declared.fault.ModKind.{ModKind}
-use Rattle.mlir_parse.specs.declared.fault.ModKind.TheVariants as faults
-use Rattle.mlir_parse.specs.declared.aliases.Alias.{Alias}
-use Rattle.mlir_parse.specs.Faults.{is_attr_fault, is_spelling_fault}
-use Rattle.mlir_parse.specs.Place.{Place, fault, left, kind, sees, start, next, spelling}
-use Rattle.mlir_parse.specs.Input.{Outcome, Parser, refuse, after, expect, items}
-use Rattle.mlir_parse.specs.Numbers.{if_short, token_value}
-use Rattle.mlir_parse.specs.Types.{ty}
-use Rattle.mlir_parse.specs.Attributes.{attr, entry_name, entry_value, string_value}
-use Rattle.mlir_parse.specs.Steps.{max_parts, counted_items, all_up_to, has_slot, after_slot, has_operation, after_operation, maybe_location}
+use Rattle.mlir_attributes.specs.declared.fault.ModFault.{ModFault}
+use Rattle.mlir_attributes.specs.declared.fault.ModKind.{ModKind}
+use Rattle.mlir_attributes.specs.declared.fault.ModKind.TheVariants as faults
+use Rattle.mlir_attributes.specs.declared.aliases.Alias.{Alias}
+use Rattle.mlir_attributes.specs.Faults.{is_attr_fault, is_spelling_fault}
+use Rattle.mlir_attributes.specs.Place.{Place, fault, left, kind, sees, start, next, spelling}
+use Rattle.mlir_attributes.specs.Input.{Outcome, Parser, refuse, after, expect, items}
+use Rattle.mlir_attributes.specs.Numbers.{if_short, token_value}
+use Rattle.mlir_attributes.specs.Types.{ty}
+use Rattle.mlir_attributes.specs.Attributes.{attr, entry_name, entry_value, string_value}
+use Rattle.mlir_attributes.specs.Steps.{max_parts, counted_items, all_up_to, has_slot, after_slot, has_operation, after_operation, maybe_location}
 use Rattle.mlir_parse.specs.Entries.{Placed, is_placed, put_placed, placed_entries, all_placed_entries, dictionary_inside, dictionary, maybe_dictionary, maybe_properties}
 use Rattle.mlir_parse.specs.SynTree.{Operation}
 use Rattle.mlir_parse.specs.Operations as read
-use Rattle.mlir_parse.proofs.FaultSteps.{Reading, IsIn, IsFault, Judged, Good, Told, start_within, next_in, after_in, refused, failed, failed_at, lifted, expected, both, mapped, either, items_judged, bracketed_judged, counted_items_judged, listed_judged, all_judged, slot_in, operation_in, maybe_location_judged}
-use Rattle.mlir_parse.proofs.FaultTypes.{ty_judged}
-use Rattle.mlir_parse.proofs.FaultAttrs.{attr_judged, entry_name_judged, value_judged}
+use Rattle.mlir_attributes.proofs.FaultSteps.{Reading, IsIn, IsFault, Judged, Good, Told, start_within, next_in, after_in, refused, failed, failed_at, lifted, expected, both, mapped, either, items_judged, bracketed_judged, counted_items_judged, listed_judged, all_judged, slot_in, operation_in, maybe_location_judged}
+use Rattle.mlir_attributes.proofs.FaultTypes.{ty_judged}
+use Rattle.mlir_attributes.proofs.FaultAttrs.{attr_judged, entry_name_judged, value_judged}
 
 pub spelling_kind : (n : ModKind) → is_attr_fault n ≡ true → is_spelling_fault n ≡ true
 spelling_kind faults.NotUtf8 h = refl

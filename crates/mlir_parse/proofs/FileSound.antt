@@ -6,32 +6,32 @@ use Rattle.std.specs.Option.{is_some}
 use Rattle.mlir_lexer.specs.declared.token.TokenKind.{TokenKind}
 use Rattle.mlir_lexer.specs.declared.token.TokenKind.TheVariants as k
 use Rattle.mlir_tree.specs.declared.refusal.Refusal.{Refusal}
-use Rattle.mlir_parse.specs.declared.fault.ModFault.{ModFault}
-use Rattle.mlir_parse.specs.declared.fault.ModKind.TheVariants as faults
-use Rattle.mlir_parse.specs.declared.aliases.Alias.{Alias}
-use Rattle.mlir_parse.specs.declared.aliases.Meaning.{Meaning}
-use Rattle.mlir_parse.specs.declared.aliases.Meaning.TheVariants as meanings
+use Rattle.mlir_attributes.specs.declared.fault.ModFault.{ModFault}
+use Rattle.mlir_attributes.specs.declared.fault.ModKind.TheVariants as faults
+use Rattle.mlir_attributes.specs.declared.aliases.Alias.{Alias}
+use Rattle.mlir_attributes.specs.declared.aliases.Meaning.{Meaning}
+use Rattle.mlir_attributes.specs.declared.aliases.Meaning.TheVariants as meanings
 use Rattle.mlir_parse.specs.declared.syn.Syn.{Syn}
-use Rattle.mlir_parse.specs.Place.{Place, fault, left, sees, start, spelling, next, start_of}
-use Rattle.mlir_parse.specs.Input.{Outcome, Parser, Gives, expect, refuse, lift, pure, take_token, ◌>>=◌, ◌>>◌, ◌<$>◌}
-use Rattle.mlir_parse.specs.Aliases.{find, has_point}
-use Rattle.mlir_parse.specs.Types.{ty, max_open}
-use Rattle.mlir_parse.specs.Attributes.{attr}
-use Rattle.mlir_parse.specs.Grammar.{IsSpelled}
-use Rattle.mlir_parse.specs.Steps as steps
+use Rattle.mlir_attributes.specs.Place.{Place, fault, left, sees, start, spelling, next, start_of}
+use Rattle.mlir_attributes.specs.Input.{Outcome, Parser, Gives, expect, refuse, lift, pure, take_token, ◌>>=◌, ◌>>◌, ◌<$>◌}
+use Rattle.mlir_attributes.specs.Aliases.{find, has_point}
+use Rattle.mlir_attributes.specs.Types.{ty, max_open}
+use Rattle.mlir_attributes.specs.Attributes.{attr}
+use Rattle.mlir_attributes.specs.Grammar.{IsSpelled}
+use Rattle.mlir_attributes.specs.Steps as steps
 use Rattle.mlir_parse.specs.SynTree.{Operation}
 use Rattle.mlir_parse.specs.Operations.{an_operation_in}
 use Rattle.mlir_parse.specs.OperationGrammar.{IsOperation}
 use Rattle.mlir_parse.specs.ModuleFile as read
 use Rattle.mlir_parse.specs.ModuleFile.{alias_of, file_operations}
 use Rattle.mlir_parse.specs.FileGrammar.{IsMeaning, IsDefinition, AreFileOperations, IsModuleFile}
-use Rattle.mlir_parse.proofs.Tokens.{bind_ok, same_ok, IsWithin, taken, expected}
-use Rattle.mlir_parse.proofs.TypesSound.{ty_sound}
-use Rattle.mlir_parse.proofs.AttrsSound.{attr_sound}
+use Rattle.mlir_attributes.proofs.Tokens.{bind_ok, same_ok, IsWithin, taken, expected}
+use Rattle.mlir_attributes.proofs.TypesSound.{ty_sound}
+use Rattle.mlir_attributes.proofs.AttrsSound.{attr_sound}
 use Rattle.mlir_parse.proofs.PartsSound.{lifted}
 use Rattle.mlir_parse.proofs.RulesSound.{loc_word, location_sound}
 use Rattle.mlir_parse.proofs.RegionsSound.{operation_sound}
-use Rattle.mlir_parse.proofs.Utf8.{utf8_all}
+use Rattle.mlir_attributes.proofs.Utf8.{utf8_all}
 
 -- ---- definitions
 

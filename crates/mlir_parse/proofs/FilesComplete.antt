@@ -4,26 +4,26 @@ use Rattle.std.specs.Prelude.{◌⊎◌, Some, None, codes}
 use Rattle.mlir_lexer.specs.declared.token.TokenKind.{TokenKind}
 use Rattle.mlir_lexer.specs.declared.token.TokenKind.TheVariants as k
 use Rattle.mlir_tree.specs.Tree.{Ty, Attr}
-use Rattle.mlir_parse.specs.declared.fault.ModKind.TheVariants as faults
-use Rattle.mlir_parse.specs.declared.aliases.Alias.{Alias}
-use Rattle.mlir_parse.specs.declared.aliases.Meaning.{Meaning}
-use Rattle.mlir_parse.specs.declared.aliases.Meaning.TheVariants as meanings
+use Rattle.mlir_attributes.specs.declared.fault.ModKind.TheVariants as faults
+use Rattle.mlir_attributes.specs.declared.aliases.Alias.{Alias}
+use Rattle.mlir_attributes.specs.declared.aliases.Meaning.{Meaning}
+use Rattle.mlir_attributes.specs.declared.aliases.Meaning.TheVariants as meanings
 use Rattle.mlir_parse.specs.declared.syn.Syn.{Syn}
-use Rattle.mlir_parse.specs.Place.{Place, fault, left, kind, sees, start, spelling, start_of}
-use Rattle.mlir_parse.specs.Aliases.{find, has_point}
-use Rattle.mlir_parse.specs.Types.{ty, word_type, max_open}
-use Rattle.mlir_parse.specs.Attributes.{attr, word_attr}
-use Rattle.mlir_parse.specs.Grammar.{IsSpelled, IsMark}
-use Rattle.mlir_parse.specs.Steps as steps
+use Rattle.mlir_attributes.specs.Place.{Place, fault, left, kind, sees, start, spelling, start_of}
+use Rattle.mlir_attributes.specs.Aliases.{find, has_point}
+use Rattle.mlir_attributes.specs.Types.{ty, word_type, max_open}
+use Rattle.mlir_attributes.specs.Attributes.{attr, word_attr}
+use Rattle.mlir_attributes.specs.Grammar.{IsSpelled, IsMark}
+use Rattle.mlir_attributes.specs.Steps as steps
 use Rattle.mlir_parse.specs.SynTree.{Operation}
 use Rattle.mlir_parse.specs.Operations.{an_operation_in}
 use Rattle.mlir_parse.specs.OperationGrammar.{IsLocation, IsOperation}
 use Rattle.mlir_parse.specs.ModuleFile as read
 use Rattle.mlir_parse.specs.ModuleFile.{alias_of, file_operations}
 use Rattle.mlir_parse.specs.FileGrammar.{IsMeaning, IsDefinition, AreDefinitions, AreFileOperations, IsModuleFile}
-use Rattle.mlir_parse.proofs.Tokens.{done, IsWithin, spelled_within, spelled_sees, spelled_kind, spelled_text, spelled_next, spelled_shorter, expects, kind_other, sees_kind}
+use Rattle.mlir_attributes.proofs.Tokens.{done, IsWithin, spelled_within, spelled_sees, spelled_kind, spelled_text, spelled_next, spelled_shorter, expects, kind_other, sees_kind}
 use Rattle.mlir_parse.proofs.RulesSound.{loc_word}
-use Rattle.mlir_parse.proofs.Utf8.{all_utf8}
+use Rattle.mlir_attributes.proofs.Utf8.{all_utf8}
 use Rattle.mlir_parse.proofs.OpsCompleteSteps.{Takes}
 use Rattle.mlir_parse.proofs.OpsCompleteRules.{location_reads, location_moves, location_within, loc_seen, attr_read, ty_read}
 use Rattle.mlir_parse.proofs.OpsComplete.{op_begins, operation_complete}

@@ -3,15 +3,15 @@ use Rattle.std.proofs.Common.{◌≡◌, ℕ, zero, suc, ◌-◌, ◌<◌, ◌�
 use Rattle.std.specs.Prelude.{◌==◌}
 use Rattle.mlir_lexer.specs.declared.token.TokenKind.{TokenKind}
 use Rattle.mlir_lexer.specs.declared.token.TokenKind.TheVariants as k
-use Rattle.mlir_parse.specs.declared.fault.ModKind.TheVariants as faults
-use Rattle.mlir_parse.specs.Place.{Place, fault, left, sees, start, spelling, next}
-use Rattle.mlir_parse.specs.Input.{Outcome, Parser, after, expect, refuse, pure, separated, items, ◌>>=◌}
-use Rattle.mlir_parse.specs.Grammar.{IsSpelled, IsMark}
-use Rattle.mlir_parse.specs.AttributeGrammar.{AreMore}
+use Rattle.mlir_attributes.specs.declared.fault.ModKind.TheVariants as faults
+use Rattle.mlir_attributes.specs.Place.{Place, fault, left, sees, start, spelling, next}
+use Rattle.mlir_attributes.specs.Input.{Outcome, Parser, after, expect, refuse, pure, separated, items, ◌>>=◌}
+use Rattle.mlir_attributes.specs.Grammar.{IsSpelled, IsMark}
+use Rattle.mlir_attributes.specs.AttributeGrammar.{AreMore}
 use Rattle.mlir_parse.specs.Lists.{AreListed, AreSome, AreMany, InBrackets}
-use Rattle.mlir_parse.specs.Steps.{opening, bracketed, counted, counted_items, listed, many, all_up_to, max_parts}
-use Rattle.mlir_parse.proofs.Tokens.{bind_ok, same_ok, IsWithin, taken, not_seen, eaten, left_alone, expected}
-use Rattle.mlir_parse.proofs.TypesSound.{Finds}
+use Rattle.mlir_attributes.specs.Steps.{opening, bracketed, counted, counted_items, listed, many, all_up_to, max_parts}
+use Rattle.mlir_attributes.proofs.Tokens.{bind_ok, same_ok, IsWithin, taken, not_seen, eaten, left_alone, expected}
+use Rattle.mlir_attributes.proofs.TypesSound.{Finds}
 
 -- ---- brackets
 

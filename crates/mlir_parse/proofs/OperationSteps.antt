@@ -1,14 +1,14 @@
 -- The steps of the rule of operations.
 use Rattle.std.proofs.Common.{◌≡◌, ℕ, zero, suc, ◌-◌, ◌<◌, Bool, true, false, cond, List, refl, ap, ◌∙◌, arith, Ok}
-use Rattle.mlir_parse.specs.declared.aliases.Alias.{Alias}
-use Rattle.mlir_parse.specs.declared.fault.ModFault.{ModFault}
+use Rattle.mlir_attributes.specs.declared.aliases.Alias.{Alias}
+use Rattle.mlir_attributes.specs.declared.fault.ModFault.{ModFault}
 use Rattle.mlir_parse.specs.declared.operations.Front.{Front}
 use Rattle.mlir_parse.specs.declared.syn.SynRegion.{SynRegion}
 use Rattle.mlir_tree.specs.declared.refusal.Refusal.{Refusal}
 use Rattle.mlir_tree.specs.declared.refusal.Refusal.TheVariants as refusals
-use Rattle.mlir_parse.specs.Place.{Place, spelling}
-use Rattle.mlir_parse.specs.Steps.{one_operation, has_operation, after_operation}
-use Rattle.mlir_parse.specs.Input.{Fails}
+use Rattle.mlir_attributes.specs.Place.{Place, spelling}
+use Rattle.mlir_attributes.specs.Steps.{one_operation, has_operation, after_operation}
+use Rattle.mlir_attributes.specs.Input.{Fails}
 use Rattle.mlir_parse.specs.Operations.{a_front, a_back, maybe_regions, an_operation, an_operation_in, two_deeper}
 
 pub operation_is : (aliases : List Alias) (room : ℕ) (s : Place) → an_operation_in aliases room s ≡ an_operation aliases (two_deeper aliases room) room s

@@ -4,22 +4,22 @@ use Rattle.std.specs.Prelude.{◌==◌, Option, Some}
 use Rattle.mlir_lexer.specs.declared.token.TokenKind.{TokenKind}
 use Rattle.mlir_lexer.specs.declared.token.TokenKind.TheVariants as k
 use Rattle.mlir_tree.specs.Tree.{Ty}
-use Rattle.mlir_parse.specs.declared.fault.ModKind.TheVariants as faults
-use Rattle.mlir_parse.specs.declared.aliases.Alias.{Alias}
+use Rattle.mlir_attributes.specs.declared.fault.ModKind.TheVariants as faults
+use Rattle.mlir_attributes.specs.declared.aliases.Alias.{Alias}
 use Rattle.mlir_parse.specs.declared.operations.Front.{Front}
 use Rattle.mlir_parse.specs.declared.operations.Back.{Back}
-use Rattle.mlir_parse.specs.Place.{Place, fault, kind, start}
-use Rattle.mlir_parse.specs.Input.{Outcome, Parser, expect, fail, items, take_token, ◌>>◌}
-use Rattle.mlir_parse.specs.Types.{ty, ty_by, word_type, bang_type, function}
-use Rattle.mlir_parse.specs.TypeGrammar.{IsTy, IsPlain}
+use Rattle.mlir_attributes.specs.Place.{Place, fault, kind, start}
+use Rattle.mlir_attributes.specs.Input.{Outcome, Parser, expect, fail, items, take_token, ◌>>◌}
+use Rattle.mlir_attributes.specs.Types.{ty, ty_by, word_type, bang_type, function}
+use Rattle.mlir_attributes.specs.TypeGrammar.{IsTy, IsPlain}
 use Rattle.mlir_parse.specs.Lists.{AreListed, InBrackets}
-use Rattle.mlir_parse.specs.Steps as steps
-use Rattle.mlir_parse.specs.Steps.{max_parts, bracketed, listed, counted_items, all_up_to, take_slot, has_slot, one_slot, after_slot}
+use Rattle.mlir_attributes.specs.Steps as steps
+use Rattle.mlir_attributes.specs.Steps.{max_parts, bracketed, listed, counted_items, all_up_to, take_slot, has_slot, one_slot, after_slot}
 use Rattle.mlir_parse.specs.Entries.{maybe_dictionary, maybe_properties}
 use Rattle.mlir_parse.specs.Operations as read
 use Rattle.mlir_parse.specs.OperationGrammar.{IsMaybeLocation, AreProperties, IsResultType, IsOneResultType, AreOperandTypes, AreResultTypes, IsFront, IsBack}
-use Rattle.mlir_parse.proofs.Tokens.{bind_ok, same_ok, IsWithin, kind_sees, expected}
-use Rattle.mlir_parse.proofs.TypesSound.{Finds, ty_sound, word_sound, bang_sound}
+use Rattle.mlir_attributes.proofs.Tokens.{bind_ok, same_ok, IsWithin, kind_sees, expected}
+use Rattle.mlir_attributes.proofs.TypesSound.{Finds, ty_sound, word_sound, bang_sound}
 use Rattle.mlir_parse.proofs.ListsSound.{bracketed_sound, items_sound, counted_items_sound, listed_sound, any_listed_sound}
 use Rattle.mlir_parse.proofs.PartsSound.{slot_facts, results_sound, operands_sound, operation_name_sound, no_successors_sound}
 use Rattle.mlir_parse.proofs.RulesSound.{maybe_location_sound, attributes_sound, properties_sound}

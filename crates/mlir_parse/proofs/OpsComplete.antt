@@ -4,22 +4,22 @@ use Rattle.std.specs.Prelude.{◌⊎◌, nat_le, Some}
 use Rattle.std.proofs.lemmas.Bool.Decides.{nat_tests}
 use Rattle.mlir_lexer.specs.declared.token.TokenKind.{TokenKind}
 use Rattle.mlir_lexer.specs.declared.token.TokenKind.TheVariants as k
-use Rattle.mlir_parse.specs.declared.aliases.Alias.{Alias}
+use Rattle.mlir_attributes.specs.declared.aliases.Alias.{Alias}
 use Rattle.mlir_parse.specs.declared.operations.Front.{Front}
 use Rattle.mlir_parse.specs.declared.operations.Back.{Back}
 use Rattle.mlir_parse.specs.declared.syn.SynRegion.{SynRegion}
 use Rattle.mlir_parse.specs.declared.syn.SynResult.{SynResult}
-use Rattle.mlir_parse.specs.Place.{Place, left, kind, sees}
-use Rattle.mlir_parse.specs.Input.{Parser, refuse}
-use Rattle.mlir_parse.specs.Grammar.{IsMark}
-use Rattle.mlir_parse.specs.AttributeGrammar.{AreMore}
+use Rattle.mlir_attributes.specs.Place.{Place, left, kind, sees}
+use Rattle.mlir_attributes.specs.Input.{Parser, refuse}
+use Rattle.mlir_attributes.specs.Grammar.{IsMark}
+use Rattle.mlir_attributes.specs.AttributeGrammar.{AreMore}
 use Rattle.mlir_parse.specs.SynTree.{Head, Operation, operation, Regions, no_regions, region_then, Operations, no_operations, operation_then, operations}
 use Rattle.mlir_parse.specs.SynView.{region_tree}
-use Rattle.mlir_parse.specs.Steps.{max_parts, many, bracketed}
+use Rattle.mlir_attributes.specs.Steps.{max_parts, many, bracketed}
 use Rattle.mlir_parse.specs.Operations as read
 use Rattle.mlir_parse.specs.Operations.{an_operation, an_operation_in}
 use Rattle.mlir_parse.specs.OperationGrammar.{AreResults, IsLabel, IsFront, IsBack, IsRegion, IsOperation, AreRegions, AreMoreRegions, AreOperations, region_count}
-use Rattle.mlir_parse.proofs.Tokens.{IsWithin, spelled_within, spelled_sees, spelled_kind, spelled_shorter, unseen, expects, kind_other}
+use Rattle.mlir_attributes.proofs.Tokens.{IsWithin, spelled_within, spelled_sees, spelled_kind, spelled_shorter, unseen, expects, kind_other}
 use Rattle.mlir_parse.proofs.OpsCompleteSteps.{Takes, Passes, TakesAll, passes, in_brackets, bracket_opens, counted_read}
 use Rattle.mlir_parse.proofs.OpsCompleteParts.{results_read, operands_read, operation_begins, operation_name_read, operation_at, no_successors_read}
 use Rattle.mlir_parse.proofs.OpsCompleteRules.{maybe_location_read, attributes_read, properties_read}

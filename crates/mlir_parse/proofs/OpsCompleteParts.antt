@@ -7,15 +7,15 @@ use Rattle.mlir_lexer.specs.declared.token.TokenKind.{TokenKind}
 use Rattle.mlir_lexer.specs.declared.token.TokenKind.TheVariants as k
 use Rattle.mlir_parse.specs.declared.syn.SynResult.{SynResult}
 use Rattle.mlir_parse.specs.declared.syn.SynUse.{SynUse}
-use Rattle.mlir_parse.specs.Place.{Place, left, kind, sees, start, spelling, next}
-use Rattle.mlir_parse.specs.Input.{items}
-use Rattle.mlir_parse.specs.Numbers.{token_value, if_short}
-use Rattle.mlir_parse.specs.Grammar.{IsSpelled, IsNot}
+use Rattle.mlir_attributes.specs.Place.{Place, left, kind, sees, start, spelling, next}
+use Rattle.mlir_attributes.specs.Input.{items}
+use Rattle.mlir_attributes.specs.Numbers.{token_value, if_short}
+use Rattle.mlir_attributes.specs.Grammar.{IsSpelled, IsNot}
 use Rattle.mlir_parse.specs.Lists.{AreListed}
-use Rattle.mlir_parse.specs.Steps.{max_parts, max_slots, max_operations, one_slot, after_slot, one_operation, after_operation, counted_items}
+use Rattle.mlir_attributes.specs.Steps.{max_parts, max_slots, max_operations, one_slot, after_slot, one_operation, after_operation, counted_items}
 use Rattle.mlir_parse.specs.Operations as read
 use Rattle.mlir_parse.specs.OperationGrammar.{IsAt, IsValueName, IsMaybeCount, IsResult, AreResults, IsNoIndex, IsMaybeIndex, IsSlot, IsOperand, AreOperands, IsOperationName}
-use Rattle.mlir_parse.proofs.Tokens.{IsWithin, taken, spelled_within, spelled_sees, spelled_kind, spelled_text, spelled_next, spelled_shorter, unseen, expects, after_at, eaten_is, kind_other}
+use Rattle.mlir_attributes.proofs.Tokens.{IsWithin, taken, spelled_within, spelled_sees, spelled_kind, spelled_text, spelled_next, spelled_shorter, unseen, expects, after_at, eaten_is, kind_other}
 use Rattle.mlir_parse.proofs.OpsCompleteSteps.{Takes, TakesAll, PassesAll, in_brackets, counted_read, items_read, listed_read}
 
 -- ---- names of results

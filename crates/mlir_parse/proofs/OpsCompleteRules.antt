@@ -10,25 +10,26 @@ use Rattle.text_scan.proofs.StringLaws.{string_found}
 use Rattle.mlir_lexer.specs.declared.body.BodyFault.{BodyFault}
 use Rattle.mlir_lexer.specs.declared.body.BodyFault.TheVariants as bodies
 use Rattle.mlir_lexer.specs.declared.token.TokenKind.TheVariants as k
-use Rattle.mlir_parse.specs.declared.aliases.Alias.{Alias}
+use Rattle.mlir_attributes.specs.declared.aliases.Alias.{Alias}
 use Rattle.mlir_parse.specs.declared.syn.SynEntry.{SynEntry}
-use Rattle.mlir_parse.specs.Place.{Place, moved, left, sees, start, spelling, next}
-use Rattle.mlir_parse.specs.Types.{ty}
-use Rattle.mlir_parse.specs.Attributes.{attr, entry_name, entry_value}
-use Rattle.mlir_parse.specs.Grammar.{IsSpelled, IsMark}
-use Rattle.mlir_parse.specs.TypeGrammar.{IsTy}
-use Rattle.mlir_parse.specs.AttributeGrammar.{AreMore, IsEntryName, IsBehindName, IsAttr}
+use Rattle.mlir_attributes.specs.Place.{Place, moved, left, sees, start, spelling, next}
+use Rattle.mlir_attributes.specs.Types.{ty}
+use Rattle.mlir_attributes.specs.Attributes.{attr, entry_name, entry_value}
+use Rattle.mlir_attributes.specs.Grammar.{IsSpelled, IsMark}
+use Rattle.mlir_attributes.specs.TypeGrammar.{IsTy}
+use Rattle.mlir_attributes.specs.AttributeGrammar.{AreMore, IsEntryName, IsBehindName, IsAttr}
 use Rattle.mlir_parse.specs.Lists.{AreListed, InBrackets}
-use Rattle.mlir_parse.specs.Steps as steps
-use Rattle.mlir_parse.specs.Steps.{max_parts, one_slot, bracketed, listed, counted_items, balanced}
+use Rattle.mlir_attributes.specs.Steps as steps
+use Rattle.mlir_attributes.specs.Steps.{max_parts, one_slot, bracketed, listed, counted_items, balanced}
 use Rattle.mlir_parse.specs.Entries.{Placed, is_placed, put_placed, syn_entry, placed_entries, dictionary, dictionary_inside, maybe_dictionary, maybe_properties}
 use Rattle.mlir_parse.specs.OperationGrammar.{IsLocation, IsMaybeLocation, IsEntryAt, Fills, IsDictionary, AreAttributes, AreProperties}
-use Rattle.mlir_parse.proofs.Tokens.{IsWithin, taken, spelled_within, spelled_sees, spelled_kind, spelled_text, spelled_next, spelled_shorter, unseen, after_at, eaten_is, kind_other}
-use Rattle.mlir_parse.proofs.TypesSound.{ty_sound}
-use Rattle.mlir_parse.proofs.AttrsSound.{attr_sound}
-use Rattle.mlir_parse.proofs.RulesSound.{not_le, location_sound}
-use Rattle.mlir_parse.proofs.TypesComplete.{ty_takes, ty_complete}
-use Rattle.mlir_parse.proofs.AttrsComplete.{attr_takes, attr_complete}
+use Rattle.mlir_attributes.proofs.Tokens.{IsWithin, taken, spelled_within, spelled_sees, spelled_kind, spelled_text, spelled_next, spelled_shorter, unseen, after_at, eaten_is, kind_other}
+use Rattle.mlir_attributes.proofs.TypesSound.{ty_sound}
+use Rattle.mlir_attributes.proofs.AttrsSound.{attr_sound}
+use Rattle.mlir_attributes.proofs.BracketEnds.{not_le}
+use Rattle.mlir_parse.proofs.RulesSound.{location_sound}
+use Rattle.mlir_attributes.proofs.TypesComplete.{ty_takes, ty_complete}
+use Rattle.mlir_attributes.proofs.AttrsComplete.{attr_takes, attr_complete}
 use Rattle.mlir_parse.proofs.OpsCompleteSteps.{Takes, Passes, TakesAll, PassesAll, passes, mark_moves, mark_within, in_brackets, bracket_opens}
 
 -- ---- locations

@@ -4,13 +4,13 @@ use Rattle.std.specs.Prelude.{◌==◌}
 use Rattle.std.proofs.lemmas.Bool.Decides.{nat_tests}
 use Rattle.mlir_lexer.specs.declared.token.TokenKind.{TokenKind}
 use Rattle.mlir_lexer.specs.declared.token.TokenKind.TheVariants as k
-use Rattle.mlir_parse.specs.Place.{Place, left, sees}
-use Rattle.mlir_parse.specs.Input.{Parser, separated, items}
-use Rattle.mlir_parse.specs.Grammar.{IsMark}
-use Rattle.mlir_parse.specs.AttributeGrammar.{AreMore}
+use Rattle.mlir_attributes.specs.Place.{Place, left, sees}
+use Rattle.mlir_attributes.specs.Input.{Parser, separated, items}
+use Rattle.mlir_attributes.specs.Grammar.{IsMark}
+use Rattle.mlir_attributes.specs.AttributeGrammar.{AreMore}
 use Rattle.mlir_parse.specs.Lists.{AreListed, AreSome, InBrackets}
-use Rattle.mlir_parse.specs.Steps.{opening, bracketed, counted, counted_items, listed, max_parts}
-use Rattle.mlir_parse.proofs.Tokens.{IsWithin, spelled_within, spelled_sees, spelled_next, spelled_shorter, unseen, expects, after_at, eaten_is}
+use Rattle.mlir_attributes.specs.Steps.{opening, bracketed, counted, counted_items, listed, max_parts}
+use Rattle.mlir_attributes.proofs.Tokens.{IsWithin, spelled_within, spelled_sees, spelled_next, spelled_shorter, unseen, expects, after_at, eaten_is}
 
 -- the rule reads this from the place up to the other one, which is further on
 pub record Takes {A : Type 0} (p : Parser A) (s : Place) (x : A) (r : Place) : Type 0 where

@@ -4,21 +4,21 @@ use Rattle.std.specs.Prelude.{◌⊎◌, nat_le, Some}
 use Rattle.std.proofs.lemmas.Bool.Decides.{nat_tests}
 use Rattle.mlir_lexer.specs.declared.token.TokenKind.TheVariants as k
 use Rattle.mlir_tree.specs.Tree.{Ty}
-use Rattle.mlir_parse.specs.declared.aliases.Alias.{Alias}
+use Rattle.mlir_attributes.specs.declared.aliases.Alias.{Alias}
 use Rattle.mlir_parse.specs.declared.syn.SynArg.{SynArg}
-use Rattle.mlir_parse.specs.Place.{Place, left, kind, sees, start}
-use Rattle.mlir_parse.specs.Input.{Parser, items}
-use Rattle.mlir_parse.specs.Types.{ty}
-use Rattle.mlir_parse.specs.Grammar.{IsSpelled, IsMark}
-use Rattle.mlir_parse.specs.TypeGrammar.{IsTy, IsPlain}
+use Rattle.mlir_attributes.specs.Place.{Place, left, kind, sees, start}
+use Rattle.mlir_attributes.specs.Input.{Parser, items}
+use Rattle.mlir_attributes.specs.Types.{ty}
+use Rattle.mlir_attributes.specs.Grammar.{IsSpelled, IsMark}
+use Rattle.mlir_attributes.specs.TypeGrammar.{IsTy, IsPlain}
 use Rattle.mlir_parse.specs.Lists.{AreListed, InBrackets}
-use Rattle.mlir_parse.specs.Steps as steps
-use Rattle.mlir_parse.specs.Steps.{max_parts, one_slot, bracketed, counted_items}
+use Rattle.mlir_attributes.specs.Steps as steps
+use Rattle.mlir_attributes.specs.Steps.{max_parts, one_slot, bracketed, counted_items}
 use Rattle.mlir_parse.specs.Operations as read
 use Rattle.mlir_parse.specs.OperationGrammar.{IsSlot, AreOperandTypes, IsResultType, IsOneResultType, AreResultTypes, IsArgument, AreArguments, IsLabel}
-use Rattle.mlir_parse.proofs.Tokens.{IsWithin, spelled_within, spelled_sees, spelled_kind, spelled_text, spelled_next, spelled_shorter, unseen, expects, kind_other}
-use Rattle.mlir_parse.proofs.TypesSound.{ty_sound}
-use Rattle.mlir_parse.proofs.TypesComplete.{ReadBy, plain_read, plain_takes, begins, not_closed, ty_plain}
+use Rattle.mlir_attributes.proofs.Tokens.{IsWithin, spelled_within, spelled_sees, spelled_kind, spelled_text, spelled_next, spelled_shorter, unseen, expects, kind_other}
+use Rattle.mlir_attributes.proofs.TypesSound.{ty_sound}
+use Rattle.mlir_attributes.proofs.TypesComplete.{ReadBy, plain_read, plain_takes, begins, not_closed, ty_plain}
 use Rattle.mlir_parse.proofs.OpsCompleteSteps.{Takes, TakesAll, PassesAll, mark_moves, mark_within, in_brackets, bracket_opens, counted_read, items_read, listed_read}
 use Rattle.mlir_parse.proofs.OpsCompleteParts.{slot_sees, slot_taken, slot_after}
 use Rattle.mlir_parse.proofs.OpsCompleteRules.{ty_read, maybe_location_read}

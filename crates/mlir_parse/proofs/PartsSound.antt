@@ -5,20 +5,20 @@ use Rattle.std.proofs.lemmas.Bool.{ltb-true, leb-true, and_parts}
 use Rattle.text_scan.specs.Strings.{string_value}
 use Rattle.mlir_lexer.specs.declared.token.TokenKind.{TokenKind}
 use Rattle.mlir_lexer.specs.declared.token.TokenKind.TheVariants as k
-use Rattle.mlir_parse.specs.declared.fault.ModFault.{ModFault}
-use Rattle.mlir_parse.specs.declared.fault.ModKind.TheVariants as faults
+use Rattle.mlir_attributes.specs.declared.fault.ModFault.{ModFault}
+use Rattle.mlir_attributes.specs.declared.fault.ModKind.TheVariants as faults
 use Rattle.mlir_parse.specs.declared.syn.SynResult.{SynResult}
 use Rattle.mlir_parse.specs.declared.syn.SynUse.{SynUse}
-use Rattle.mlir_parse.specs.Place.{Place, fault, kind, sees, start, spelling, next}
-use Rattle.mlir_parse.specs.Input.{Parser, after, expect, refuse, fail, pure, lift, items, take_token, ◌>>=◌, ◌<$>◌}
-use Rattle.mlir_parse.specs.Numbers.{token_value, if_short}
-use Rattle.mlir_parse.specs.Grammar.{IsSpelled, IsMark, IsNot}
+use Rattle.mlir_attributes.specs.Place.{Place, fault, kind, sees, start, spelling, next}
+use Rattle.mlir_attributes.specs.Input.{Parser, after, expect, refuse, fail, pure, lift, items, take_token, ◌>>=◌, ◌<$>◌}
+use Rattle.mlir_attributes.specs.Numbers.{token_value, if_short}
+use Rattle.mlir_attributes.specs.Grammar.{IsSpelled, IsMark, IsNot}
 use Rattle.mlir_parse.specs.Lists.{AreListed, AreSome, InBrackets}
-use Rattle.mlir_parse.specs.Steps.{max_parts, max_slots, max_operations, has_slot, one_slot, after_slot, take_slot, has_operation, one_operation, after_operation, take_operation, counted_items}
+use Rattle.mlir_attributes.specs.Steps.{max_parts, max_slots, max_operations, has_slot, one_slot, after_slot, take_slot, has_operation, one_operation, after_operation, take_operation, counted_items}
 use Rattle.mlir_parse.specs.Operations as read
 use Rattle.mlir_parse.specs.OperationGrammar.{IsValueName, IsMaybeCount, IsResult, AreResults, IsNoIndex, IsMaybeIndex, IsSlot, IsOperand, IsOperationName}
-use Rattle.mlir_parse.proofs.Tokens.{bind_ok, same_ok, IsWithin, taken, kind_sees, not_seen, eaten, left_alone, expected, spelled_sees, spelled_text}
-use Rattle.mlir_parse.proofs.TypesSound.{Finds}
+use Rattle.mlir_attributes.proofs.Tokens.{bind_ok, same_ok, IsWithin, taken, kind_sees, not_seen, eaten, left_alone, expected, spelled_sees, spelled_text}
+use Rattle.mlir_attributes.proofs.TypesSound.{Finds}
 use Rattle.mlir_parse.proofs.ListsSound.{bracketed_sound, items_sound, counted_items_sound, listed_sound}
 
 -- ---- names of values

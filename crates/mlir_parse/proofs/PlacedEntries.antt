@@ -11,7 +11,7 @@ use Rattle.std.specs.declared.cmp.Ordering.TheVariants.{Less, Equal, Greater}
 use Rattle.mlir_tree.specs.Tree.{Attr}
 use Rattle.mlir_tree.specs.Order.{text_cmp}
 use Rattle.mlir_parse.specs.Entries.{is_placed, placed_of}
-use Rattle.mlir_parse.proofs.Entries.{key_cmp}
+use Rattle.mlir_attributes.proofs.Entries.{key_cmp}
 
 abbrev pub Entry : Type 0
 Entry = Vec ℕ × (ℕ × Attr)

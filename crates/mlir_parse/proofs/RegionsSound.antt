@@ -2,27 +2,28 @@
 use Rattle.std.proofs.Common.{◌≡◌, ℕ, zero, suc, ◌-◌, ◌<◌, ◌≤◌, Bool, true, false, cond, List, [], ◌∷◌, length, refl, sym, subst, inl, inr, Ok, arith}
 use Rattle.std.specs.Prelude.{◌&&◌, nat_le}
 use Rattle.mlir_lexer.specs.declared.token.TokenKind.TheVariants as k
-use Rattle.mlir_parse.specs.declared.fault.ModKind.TheVariants as faults
-use Rattle.mlir_parse.specs.declared.aliases.Alias.{Alias}
+use Rattle.mlir_attributes.specs.declared.fault.ModKind.TheVariants as faults
+use Rattle.mlir_attributes.specs.declared.aliases.Alias.{Alias}
 use Rattle.mlir_parse.specs.declared.syn.SynArg.{SynArg}
 use Rattle.mlir_parse.specs.declared.syn.SynRegion.{SynRegion}
-use Rattle.mlir_parse.specs.Place.{Place, sees, spelling, next}
-use Rattle.mlir_parse.specs.Input.{Parser, expect, refuse, fail, pure}
-use Rattle.mlir_parse.specs.Types.{ty}
-use Rattle.mlir_parse.specs.Grammar.{IsMark}
-use Rattle.mlir_parse.specs.AttributeGrammar.{AreMore}
+use Rattle.mlir_attributes.specs.Place.{Place, sees, spelling, next}
+use Rattle.mlir_attributes.specs.Input.{Parser, expect, refuse, fail, pure}
+use Rattle.mlir_attributes.specs.Types.{ty}
+use Rattle.mlir_attributes.specs.Grammar.{IsMark}
+use Rattle.mlir_attributes.specs.AttributeGrammar.{AreMore}
 use Rattle.mlir_parse.specs.SynTree.{Operation, operation, operations}
 use Rattle.mlir_parse.specs.SynView.{region_tree}
 use Rattle.mlir_parse.specs.Lists.{AreListed, AreSome, AreMany, InBrackets}
-use Rattle.mlir_parse.specs.Steps as steps
-use Rattle.mlir_parse.specs.Steps.{max_parts, bracketed, counted_items, all_up_to}
+use Rattle.mlir_attributes.specs.Steps as steps
+use Rattle.mlir_attributes.specs.Steps.{max_parts, bracketed, counted_items, all_up_to}
 use Rattle.mlir_parse.specs.Operations as read
 use Rattle.mlir_parse.specs.OperationGrammar.{IsMaybeLocation, IsArgument, AreArguments, IsLabel, IsRegion, region_count, IsOperation, AreRegions, AreMoreRegions, AreOperations}
-use Rattle.mlir_parse.proofs.Tokens.{bind_ok, same_ok, IsWithin, taken, not_seen, expected, spelled_sees}
-use Rattle.mlir_parse.proofs.TypesSound.{Finds, ty_sound}
+use Rattle.mlir_attributes.proofs.Tokens.{bind_ok, same_ok, IsWithin, taken, not_seen, expected, spelled_sees}
+use Rattle.mlir_attributes.proofs.TypesSound.{Finds, ty_sound}
 use Rattle.mlir_parse.proofs.ListsSound.{bracketed_at, bracketed_sound, counted_items_sound, listed_sound, all_sound}
 use Rattle.mlir_parse.proofs.PartsSound.{value_at}
-use Rattle.mlir_parse.proofs.RulesSound.{maybe_location_sound, not_le}
+use Rattle.mlir_attributes.proofs.BracketEnds.{not_le}
+use Rattle.mlir_parse.proofs.RulesSound.{maybe_location_sound}
 use Rattle.mlir_parse.proofs.OperationsSound.{front_sound, back_sound}
 
 module _ (aliases : List Alias) where

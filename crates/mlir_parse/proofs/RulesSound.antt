@@ -1,33 +1,29 @@
 -- Dictionaries, function types, locations and regions that are read are spelled so.
-use Rattle.std.proofs.Common.{◌≡◌, ℕ, zero, suc, ◌+◌, ◌-◌, ◌<◌, ◌≤◌, Bool, true, false, cond, List, [], ◌∷◌, length, refl, ap, sym, subst, ◌∙◌, inl, inr, Result, Ok, Err, arith}
-use Rattle.std.specs.Prelude.{◌==◌, nat_le, map, Option, Some, None, codes}
+use Rattle.std.proofs.Common.{◌≡◌, ℕ, zero, suc, ◌-◌, Bool, true, false, cond, List, [], ◌∷◌, refl, sym, subst, ◌∙◌, inl, inr, Result, Ok, Err}
+use Rattle.std.specs.Prelude.{map, codes}
 use Rattle.std.specs.Str.{bytes_eq}
 use Rattle.std.proofs.lemmas.Slice.Eq.{bytes_eq-Decides}
 use Rattle.std.proofs.lemmas.Bool.{and_parts}
-use Rattle.std.specs.Prelude.{drop, slice_index}
-use Rattle.std.specs.Option.{option_map_or}
-use Rattle.std.proofs.lemmas.Bool.Decides.{nat_tests}
-use Rattle.text_scan.specs.Strings.{string_end}
-use Rattle.text_scan.proofs.StringLaws.{string_found}
 use Rattle.mlir_lexer.specs.declared.body.BodyFault.{BodyFault}
 use Rattle.mlir_lexer.specs.declared.body.BodyFault.TheVariants as bodies
 use Rattle.mlir_lexer.specs.declared.token.TokenKind.TheVariants as k
-use Rattle.mlir_parse.specs.declared.fault.ModKind.TheVariants as faults
-use Rattle.mlir_parse.specs.declared.aliases.Alias.{Alias}
+use Rattle.mlir_attributes.specs.declared.fault.ModKind.TheVariants as faults
+use Rattle.mlir_attributes.specs.declared.aliases.Alias.{Alias}
 use Rattle.mlir_parse.specs.declared.syn.SynEntry.{SynEntry}
-use Rattle.mlir_parse.specs.Place.{Place, moved, left, kind, sees, start, spelling, next}
-use Rattle.mlir_parse.specs.Input.{Parser, after, eat, fail_at, pure, take_token, ◌>>=◌, ◌>>◌}
-use Rattle.mlir_parse.specs.Attributes.{attr, entry_name, entry_value}
-use Rattle.mlir_parse.specs.Grammar.{IsSpelled}
-use Rattle.mlir_parse.specs.AttributeGrammar.{AreMore, IsEntryName, IsAttr}
+use Rattle.mlir_attributes.specs.Place.{Place, moved, left, kind, sees, start, spelling, next}
+use Rattle.mlir_attributes.specs.Input.{Parser, after, eat, fail_at, pure, take_token, ◌>>=◌, ◌>>◌}
+use Rattle.mlir_attributes.specs.Attributes.{attr, entry_name, entry_value}
+use Rattle.mlir_attributes.specs.Grammar.{IsSpelled}
+use Rattle.mlir_attributes.specs.AttributeGrammar.{AreMore, IsEntryName, IsAttr}
 use Rattle.mlir_parse.specs.Lists.{AreListed}
-use Rattle.mlir_parse.specs.Steps as steps
-use Rattle.mlir_parse.specs.Steps.{max_parts, opening, bracketed, listed, counted_items, balanced, take_slot, has_slot, one_slot, after_slot}
+use Rattle.mlir_attributes.specs.Steps as steps
+use Rattle.mlir_attributes.specs.Steps.{opening, bracketed, listed, balanced}
 use Rattle.mlir_parse.specs.Entries.{Placed, is_placed, put_placed, syn_entry, placed_entries, all_placed_entries, dictionary, dictionary_inside, maybe_dictionary, maybe_properties}
 use Rattle.mlir_parse.specs.OperationGrammar.{IsLocation, IsMaybeLocation, IsEntryAt, Fills, IsDictionary, AreAttributes, AreProperties}
-use Rattle.mlir_parse.proofs.Tokens.{bind_ok, same_ok, IsWithin, taken, not_seen, eaten, left_alone, spelled_text, spelled_sees}
-use Rattle.mlir_parse.proofs.TypesSound.{Finds}
-use Rattle.mlir_parse.proofs.AttrsSound.{attr_sound, name_sound, value_sound as behind_sound}
+use Rattle.mlir_attributes.proofs.BracketEnds.{balanced_within}
+use Rattle.mlir_attributes.proofs.Tokens.{bind_ok, same_ok, IsWithin, taken, not_seen, eaten, left_alone, spelled_text, spelled_sees}
+use Rattle.mlir_attributes.proofs.TypesSound.{Finds}
+use Rattle.mlir_attributes.proofs.AttrsSound.{attr_sound, name_sound, value_sound as behind_sound}
 use Rattle.mlir_parse.proofs.ListsSound.{opening_sound, bracketed_sound}
 
 -- ---- locations
@@ -50,42 +46,6 @@ no_loc s is m h =
     let seen = spelled_sees k.Word (codes "loc") s m h in
     let yes : bytes_eq (spelling s) (codes "loc") ≡ true = (bytes_eq-Decides (spelling s) (codes "loc")).1 same in
     absurd (cc)
-
-pub not_le : (m n : ℕ) → nat_le m n ≡ false → n < m
-not_le m n h = grind (arith, nat_tests)
-
-or_end : ℕ → Result ℕ BodyFault → ℕ
-or_end n (Ok m) = m
-or_end n (Err e) = n
-
-module _ (bytes : List ℕ) (room : ℕ) where
-  behind_string : (n at end depth : ℕ) → ((depth at : ℕ) → at ≤ length bytes → balanced n bytes room depth at ≡ Ok end → end ≤ length bytes) → at ≤ length bytes → (o : Option ℕ) → string_end at (drop at bytes) ≡ o
-      → option_map_or (λ e. balanced n bytes room depth e) o (Err (bodies.BadString at)) ≡ Ok end → end ≤ length bytes
-  behind_string n at end depth go inside (Some e) is h = go depth e (string_found bytes at e inside is).within h
-  behind_string n at end depth go inside None is h = absurd (cc)
-
-  balanced_by : (n at end depth : ℕ) → ((depth at : ℕ) → at ≤ length bytes → balanced n bytes room depth at ≡ Ok end → end ≤ length bytes) → at ≤ length bytes
-      → (a b c d e f : Bool) → nat_le (length bytes) at ≡ a
-      → cond {A = Result ℕ BodyFault} a (Err (bodies.Unclosed (length bytes))) (cond b (option_map_or (λ e. balanced n bytes room depth e) (string_end at (drop at bytes)) (Err (bodies.BadString at)))
-      (cond c (cond d (Err (bodies.TooDeep at)) (balanced n bytes room (depth + 1) (at + 1)))
-      (cond e (cond f (Ok (at + 1)) (balanced n bytes room (depth - 1) (at + 1))) (balanced n bytes room depth (at + 1))))) ≡ Ok end → end ≤ length bytes
-  unfolding or_end
-  balanced_by n at end depth go inside true b c d e f is h = absurd (cc)
-  balanced_by n at end depth go inside false true c d e f is h = behind_string n at end depth go inside (string_end at (drop at bytes)) refl h
-  balanced_by n at end depth go inside false false true true e f is h = absurd (cc)
-  balanced_by n at end depth go inside false false true false e f is h = go (depth + 1) (at + 1) (let below = not_le (length bytes) at is in omega (arith, below)) h
-  balanced_by n at end depth go inside false false false d true true is h =
-      let below = not_le (length bytes) at is in
-      let same : at + 1 ≡ end = ap (or_end 0) h in
-      omega (arith, below, same)
-  balanced_by n at end depth go inside false false false d true false is h = go (depth - 1) (at + 1) (let below = not_le (length bytes) at is in omega (arith, below)) h
-  balanced_by n at end depth go inside false false false d false f is h = go depth (at + 1) (let below = not_le (length bytes) at is in omega (arith, below)) h
-
-  pub balanced_within : (n end depth at : ℕ) → at ≤ length bytes → balanced n bytes room depth at ≡ Ok end → end ≤ length bytes
-  unfolding balanced
-  balanced_within zero end depth at inside h = absurd (cc)
-  balanced_within (suc n) end depth at inside h =
-      balanced_by n at end depth (balanced_within n end) inside (nat_le (length bytes) at) (slice_index bytes at == 34) (slice_index bytes at == 40) (nat_le room depth) (slice_index bytes at == 41) (nat_le depth 1) refl h
 
 pub location_sound : (room : ℕ) (s m r : Place) (u : Unit {0}) → IsSpelled k.Word (codes "loc") s m → IsWithin m → steps.location room m ≡ Ok (u, r) → IsLocation room s r × IsWithin r
 unfolding steps.location steps.location_text

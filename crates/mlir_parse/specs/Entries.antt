@@ -7,13 +7,13 @@ use Rattle.std.specs.declared.alloc.Global.{Global}
 use Rattle.mlir_lexer.specs.declared.token.TokenKind.TheVariants as k
 use Rattle.mlir_tree.specs.Tree.{Attr}
 use Rattle.mlir_tree.specs.Order.{text_cmp}
-use Rattle.mlir_parse.specs.declared.fault.ModKind.TheVariants as faults
-use Rattle.mlir_parse.specs.declared.aliases.Alias.{Alias}
+use Rattle.mlir_attributes.specs.declared.fault.ModKind.TheVariants as faults
+use Rattle.mlir_attributes.specs.declared.aliases.Alias.{Alias}
 use Rattle.mlir_parse.specs.declared.syn.SynEntry.{SynEntry}
-use Rattle.mlir_parse.specs.Place.{left}
-use Rattle.mlir_parse.specs.Input.{Parser, ◌>>=◌, pure, refuse, fail_at, here, see, eat}
-use Rattle.mlir_parse.specs.Attributes.{attr, entry_name, entry_value}
-use Rattle.mlir_parse.specs.Steps.{bracketed, listed}
+use Rattle.mlir_attributes.specs.Place.{left}
+use Rattle.mlir_attributes.specs.Input.{Parser, ◌>>=◌, pure, refuse, fail_at, here, see, eat}
+use Rattle.mlir_attributes.specs.Attributes.{attr, entry_name, entry_value}
+use Rattle.mlir_attributes.specs.Steps.{bracketed, listed}
 
 -- A name with its place and its attribute.
 abbrev pub Placed : Type 0

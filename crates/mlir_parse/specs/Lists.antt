@@ -2,9 +2,9 @@
 use Rattle.std.specs.Prelude.{◌≡◌, ℕ, zero, suc, List, [], ◌∷◌}
 use Rattle.mlir_lexer.specs.declared.token.TokenKind.{TokenKind}
 use Rattle.mlir_lexer.specs.declared.token.TokenKind.TheVariants.{Comma}
-use Rattle.mlir_parse.specs.Place.{Place}
-use Rattle.mlir_parse.specs.Grammar.{IsMark}
-use Rattle.mlir_parse.specs.AttributeGrammar.{AreMore}
+use Rattle.mlir_attributes.specs.Place.{Place}
+use Rattle.mlir_attributes.specs.Grammar.{IsMark}
+use Rattle.mlir_attributes.specs.AttributeGrammar.{AreMore}
 
 -- zero or more with commas between
 abbrev pub AreListed : {A : Type 0} → (Place → A → Place → Type 0) → Place → List A → Place → Type 0

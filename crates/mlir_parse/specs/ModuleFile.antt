@@ -1,49 +1,24 @@
 -- Alias definitions and module files, read from the front of a text.
-use Rattle.std.specs.Prelude.{ℕ, zero, suc, Bool, true, false, ◌&&◌, ◌||◌, not, ◌==◌, max, if◌then◌else◌, List, [], ◌∷◌, ◌++◌, length, slice_index, Result, Ok, Err}
+use Rattle.std.specs.Prelude.{ℕ, zero, suc, Bool, ◌||◌, ◌==◌, if◌then◌else◌, List, [], ◌∷◌, ◌++◌, length, Result, Ok, Err}
 use Rattle.std.specs.Option.{is_some}
 use Rattle.std.specs.Str.Lossy.{utf8_valid_len}
-use Rattle.mlir_lexer.specs.Body.{effect_of}
 use Rattle.mlir_lexer.specs.declared.token.TokenKind.TheVariants as k
 use Rattle.mlir_print.specs.Text.{ty_text, attr_text}
-use Rattle.mlir_parse.specs.declared.fault.ModFault.{ModFault}
-use Rattle.mlir_parse.specs.declared.fault.ModKind.TheVariants as faults
-use Rattle.mlir_parse.specs.declared.aliases.Alias.{Alias}
-use Rattle.mlir_parse.specs.declared.aliases.Meaning.{Meaning}
-use Rattle.mlir_parse.specs.declared.aliases.Meaning.TheVariants as meanings
-use Rattle.mlir_parse.specs.declared.nesting.Scan.{Scan}
+use Rattle.mlir_attributes.specs.declared.fault.ModFault.{ModFault}
+use Rattle.mlir_attributes.specs.declared.fault.ModKind.TheVariants as faults
+use Rattle.mlir_attributes.specs.declared.aliases.Alias.{Alias}
+use Rattle.mlir_attributes.specs.declared.aliases.Meaning.{Meaning}
+use Rattle.mlir_attributes.specs.declared.aliases.Meaning.TheVariants as meanings
 use Rattle.mlir_parse.specs.declared.syn.Syn.{Syn}
-use Rattle.mlir_parse.specs.Place.{Place, left, fault, sees, start_of}
-use Rattle.mlir_parse.specs.Input.{Outcome, Parser, ◌>>=◌, ◌>>◌, ◌<$>◌, pure, lift, refuse, see, here, take_token, expect}
-use Rattle.mlir_parse.specs.Aliases.{find, has_point}
-pub use Rattle.mlir_parse.specs.Brackets.{innermost, closers_by}
-use Rattle.mlir_parse.specs.Types.{ty, max_open}
-use Rattle.mlir_parse.specs.Attributes.{attr}
-use Rattle.mlir_parse.specs.Steps.{see_loc, location}
+use Rattle.mlir_attributes.specs.Place.{Place, left, fault, sees, start_of}
+use Rattle.mlir_attributes.specs.Input.{Outcome, Parser, ◌>>=◌, ◌>>◌, ◌<$>◌, pure, lift, refuse, see, here, take_token, expect}
+use Rattle.mlir_attributes.specs.Aliases.{find, has_point}
+use Rattle.mlir_attributes.specs.Nesting.{nesting}
+use Rattle.mlir_attributes.specs.Types.{ty, max_open}
+use Rattle.mlir_attributes.specs.Attributes.{attr}
+use Rattle.mlir_attributes.specs.Steps.{see_loc, location}
 use Rattle.mlir_parse.specs.SynTree.{Operation}
 use Rattle.mlir_parse.specs.Operations.{an_operation_in}
-
--- ---- how many brackets are open at once in a printed text
-
-abbrev pub scan_to : Scan → List ℕ → ℕ → Scan
-scan_to s closers b = record { closers = closers; dash = b == 45; quoted = false; escaped = false; most = max s.most (length closers) }
-
--- The state behind a byte, before this next byte. Inside a string a backslash takes the next byte with it.
-unfoldable pub scan_byte : Scan → ℕ → ℕ → Scan
-scan_byte s b next =
-    if s.quoted then record s { quoted = s.escaped || not (b == 34); escaped = not s.escaped && b == 92; dash = false }
-    else (if b == 34 then record s { quoted = true; dash = false }
-    else scan_to s (closers_by (effect_of b next s.dash (innermost s.closers)) b s.closers) b)
-
-unfoldable pub scan_text : Scan → List ℕ → Scan
-scan_text s [] = s
-scan_text s (b ∷ text) = scan_text (scan_byte s b (slice_index text 0)) text
-
-abbrev pub scan_start : Scan
-scan_start = record { closers = []; dash = false; quoted = false; escaped = false; most = 0 }
-
--- the most brackets that are open at once in a text; those in strings don't count
-abbrev pub nesting : List ℕ → ℕ
-nesting text = (scan_text scan_start text).most
 
 -- ---- aliases
 

@@ -4,19 +4,19 @@ use Rattle.std.specs.Prelude.{◌≡◌, ℕ, ◌+◌, ◌<◌, ◌≤◌, false
 use Rattle.text_scan.specs.Strings.{string_value}
 use Rattle.mlir_lexer.specs.declared.token.TokenKind.TheVariants as k
 use Rattle.mlir_tree.specs.Tree.{Ty}
-use Rattle.mlir_parse.specs.declared.aliases.Alias.{Alias}
+use Rattle.mlir_attributes.specs.declared.aliases.Alias.{Alias}
 use Rattle.mlir_parse.specs.declared.syn.SynResult.{SynResult}
 use Rattle.mlir_parse.specs.declared.syn.SynUse.{SynUse}
 use Rattle.mlir_parse.specs.declared.syn.SynArg.{SynArg}
 use Rattle.mlir_parse.specs.declared.syn.SynEntry.{SynEntry}
-use Rattle.mlir_parse.specs.Place.{Place, moved, left, start}
-use Rattle.mlir_parse.specs.Grammar.{IsSpelled, IsMark, IsNot}
-use Rattle.mlir_parse.specs.TypeGrammar.{IsTy, IsPlain}
-use Rattle.mlir_parse.specs.AttributeGrammar.{IsAttr, IsEntryName, IsBehindName}
-use Rattle.mlir_parse.specs.Numbers.{token_value}
+use Rattle.mlir_attributes.specs.Place.{Place, moved, left, start}
+use Rattle.mlir_attributes.specs.Grammar.{IsSpelled, IsMark, IsNot}
+use Rattle.mlir_attributes.specs.TypeGrammar.{IsTy, IsPlain}
+use Rattle.mlir_attributes.specs.AttributeGrammar.{IsAttr, IsEntryName, IsBehindName}
+use Rattle.mlir_attributes.specs.Numbers.{token_value}
 use Rattle.mlir_parse.specs.SynTree.{Head, Operation, operation, Regions, no_regions, region_then, Operations, no_operations, operation_then}
 use Rattle.mlir_parse.specs.Lists.{AreListed, AreSome, InBrackets}
-use Rattle.mlir_parse.specs.Steps.{balanced, max_parts, max_operations, max_slots, one_slot, one_operation}
+use Rattle.mlir_attributes.specs.Steps.{balanced, max_parts, max_operations, max_slots, one_slot, one_operation}
 use Rattle.mlir_parse.specs.Entries.{Placed, is_placed, put_placed, syn_entry}
 use Rattle.mlir_parse.specs.Operations.{behind_mark, is_index, index_of}
 

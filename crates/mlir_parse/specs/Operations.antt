@@ -7,9 +7,9 @@ pub use Rattle.text_scan.specs.Strings.{string_value}
 use Rattle.mlir_lexer.specs.declared.token.TokenKind.{TokenKind}
 use Rattle.mlir_lexer.specs.declared.token.TokenKind.TheVariants as k
 use Rattle.mlir_tree.specs.Tree.{Ty}
-use Rattle.mlir_parse.specs.declared.fault.ModFault.{ModFault}
-use Rattle.mlir_parse.specs.declared.fault.ModKind.TheVariants as faults
-use Rattle.mlir_parse.specs.declared.aliases.Alias.{Alias}
+use Rattle.mlir_attributes.specs.declared.fault.ModFault.{ModFault}
+use Rattle.mlir_attributes.specs.declared.fault.ModKind.TheVariants as faults
+use Rattle.mlir_attributes.specs.declared.aliases.Alias.{Alias}
 use Rattle.mlir_parse.specs.declared.operations.FunctionType.{FunctionType}
 use Rattle.mlir_parse.specs.declared.operations.Front.{Front}
 use Rattle.mlir_parse.specs.declared.operations.Back.{Back}
@@ -17,13 +17,13 @@ use Rattle.mlir_parse.specs.declared.syn.SynResult.{SynResult}
 use Rattle.mlir_parse.specs.declared.syn.SynUse.{SynUse}
 use Rattle.mlir_parse.specs.declared.syn.SynArg.{SynArg}
 use Rattle.mlir_parse.specs.declared.syn.SynRegion.{SynRegion}
-use Rattle.mlir_parse.specs.Place.{Place, fault, sees, start, spelling}
-use Rattle.mlir_parse.specs.Input.{Outcome, Parser, ◌>>=◌, ◌>>◌, ◌<$>◌, pure, lift, fail, refuse, peek, see, here, ahead, take_token, eat, expect, items}
-use Rattle.mlir_parse.specs.Numbers.{token_value, if_short}
-use Rattle.mlir_parse.specs.Types.{ty, one_of}
+use Rattle.mlir_attributes.specs.Place.{Place, fault, sees, start, spelling}
+use Rattle.mlir_attributes.specs.Input.{Outcome, Parser, ◌>>=◌, ◌>>◌, ◌<$>◌, pure, lift, fail, refuse, peek, see, here, ahead, take_token, eat, expect, items}
+use Rattle.mlir_attributes.specs.Numbers.{token_value, if_short}
+use Rattle.mlir_attributes.specs.Types.{ty, one_of}
 use Rattle.mlir_parse.specs.SynTree.{Head, Operation, operation}
 use Rattle.mlir_parse.specs.SynView.{region_tree}
-use Rattle.mlir_parse.specs.Steps.{bracketed, counted_items, listed, all_up_to, max_parts, take_slot, take_operation, maybe_location}
+use Rattle.mlir_attributes.specs.Steps.{bracketed, counted_items, listed, all_up_to, max_parts, take_slot, take_operation, maybe_location}
 use Rattle.mlir_parse.specs.Entries.{maybe_dictionary, maybe_properties}
 
 -- ---- names of values

@@ -2,29 +2,29 @@
 
 ghost use Rattle.std.specs.Prelude.{◌≡◌, ◌≤◌, IfOk, ℕ, List, [], length, true, Ok, Err, None};
 ghost use Rattle.std.specs.Str.Lossy.{utf8_valid_len};
-ghost use Rattle.mlir_parse.specs.declared.fault.ModFault.{ModFault as Fault};
+ghost use Rattle.mlir_attributes.specs.declared.fault.ModFault.{ModFault as Fault};
 ghost use Rattle.mlir_parse.specs.declared.syn.Syn.{Syn as Read};
-ghost use Rattle.mlir_parse.specs.Faults.{is_spelling_fault};
+ghost use Rattle.mlir_attributes.specs.Faults.{is_spelling_fault};
 ghost use Rattle.mlir_parse.specs.Limits.{KeepsLimits};
-ghost use Rattle.mlir_parse.specs.Input.{Reads, Gives};
-ghost use Rattle.mlir_parse.specs.Aliases.{find};
+ghost use Rattle.mlir_attributes.specs.Input.{Reads, Gives};
+ghost use Rattle.mlir_attributes.specs.Aliases.{find};
 ghost use Rattle.mlir_parse.specs.ModuleFile as spec;
 ghost use Rattle.mlir_parse.specs.FileGrammar.{IsModuleFile};
 
-use crate::aliases::{Alias, Aliases, Meaning, has_point};
-use crate::attributes::attr;
-use crate::fault::{ModFault, ModKind};
-use crate::nesting::nesting;
 use crate::operations::{location, operation, sees_loc};
-use crate::reader::{MAX_OPEN, Reader, Refused, fail_at};
 use crate::syn::{Syn, SynOp};
-use crate::types::ty;
+use mlir_attributes::aliases::{Alias, Aliases, Meaning, has_point};
+use mlir_attributes::attributes::attr;
+use mlir_attributes::fault::{ModFault, ModKind};
+use mlir_attributes::nesting::nesting;
+use mlir_attributes::reader::{MAX_OPEN, Reader, Refused, fail_at};
+use mlir_attributes::types::ty;
 use mlir_lexer::TokenKind;
 use mlir_print::{attr_text, ty_text};
 use mlir_tree::refusal::Refusal;
 use mlir_tree::text::Text;
-use simdutf8::compat::from_utf8;
 use shared_text::SharedText;
+use simdutf8::compat::from_utf8;
 use sqlite_items::Items;
 use std::alloc::{AllocError, Global};
 

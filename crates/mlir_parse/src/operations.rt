@@ -1,22 +1,22 @@
 //! Operations and regions.
 
 ghost use Rattle.std.specs.Prelude.{◌≡◌, ◌≤◌, ◌<◌, ◌+◌, ◌-◌, [], IfOk, Ok, Err};
-ghost use Rattle.mlir_parse.specs.Input.{Reads, Gives, Outcome, items};
+ghost use Rattle.mlir_attributes.specs.Input.{Reads, Gives, Outcome, items};
 ghost use Rattle.mlir_parse.specs.SynTree.{operation};
 ghost use Rattle.mlir_parse.specs.SynView.{region_tree};
-ghost use Rattle.mlir_parse.specs.Place as place;
-ghost use Rattle.mlir_parse.specs.Types as types;
-ghost use Rattle.mlir_parse.specs.Steps as steps;
+ghost use Rattle.mlir_attributes.specs.Place as place;
+ghost use Rattle.mlir_attributes.specs.Types as types;
+ghost use Rattle.mlir_attributes.specs.Steps as steps;
 ghost use Rattle.mlir_parse.specs.Operations as spec;
 ghost use Rattle.mlir_lexer.specs.declared.token.TokenKind.TheVariants.{RightBrace};
 
-use crate::aliases::Aliases;
-use crate::fault::ModKind;
-use crate::numbers::{magnitude, token_value};
 use crate::placed::{maybe_dictionary, maybe_properties};
-use crate::reader::{MAX_PARTS, Reader, Refused, fail_at, room_for_one};
 use crate::syn::{SynArg, SynEntry, SynOp, SynRegion, SynResult, SynUse};
-use crate::types::ty;
+use mlir_attributes::aliases::Aliases;
+use mlir_attributes::fault::ModKind;
+use mlir_attributes::numbers::{magnitude, token_value};
+use mlir_attributes::reader::{MAX_PARTS, Reader, Refused, fail_at, room_for_one};
+use mlir_attributes::types::ty;
 use mlir_lexer::TokenKind;
 use mlir_tree::refusal::Refusal;
 use mlir_tree::text::Text;

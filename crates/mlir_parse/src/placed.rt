@@ -1,15 +1,15 @@
 //! The entries of a dictionary with the places of their names.
 
 ghost use Rattle.std.specs.Prelude.{◌≡◌, ◌-◌, [], map, IfOk, OnOk};
-ghost use Rattle.mlir_parse.specs.Input.{Reads};
-ghost use Rattle.mlir_parse.specs.Attributes.{attr};
+ghost use Rattle.mlir_attributes.specs.Input.{Reads};
+ghost use Rattle.mlir_attributes.specs.Attributes.{attr};
 ghost use Rattle.mlir_parse.specs.Entries as spec;
 
-use crate::aliases::Aliases;
-use crate::attributes::{entry_name, entry_value};
-use crate::fault::ModKind;
-use crate::reader::{Reader, Refused, fail_at, room_for_one};
 use crate::syn::SynEntry;
+use mlir_attributes::aliases::Aliases;
+use mlir_attributes::attributes::{entry_name, entry_value};
+use mlir_attributes::fault::ModKind;
+use mlir_attributes::reader::{Reader, Refused, fail_at, room_for_one};
 use mlir_lexer::TokenKind;
 use mlir_tree::attr::Attr;
 use shared_text::SharedText;

@@ -12,8 +12,8 @@ use Rattle.mlir_tree.specs.declared.row.Home.{Home}
 use Rattle.mlir_tree.specs.declared.value.Val.{Val}
 use Rattle.mlir_tree.specs.declared.value.Val.TheVariants.{Arg}
 use Rattle.mlir_tree.specs.Module.{home_eq}
-use Rattle.mlir_parse.specs.declared.fault.ModFault.{ModFault}
-use Rattle.mlir_parse.specs.declared.fault.ModKind.TheVariants as faults
+use Rattle.mlir_attributes.specs.declared.fault.ModFault.{ModFault}
+use Rattle.mlir_attributes.specs.declared.fault.ModKind.TheVariants as faults
 use Rattle.mlir_parse.specs.declared.syn.SynArg.{SynArg}
 use Rattle.mlir_parse.specs.SynTree.{Head, Operation}
 use Rattle.mlir_resolve.specs.Laid.{Laid, region}

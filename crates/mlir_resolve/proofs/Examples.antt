@@ -3,7 +3,7 @@ use Rattle.std.proofs.Common.{◌≡◌, ℕ, List, [], ◌∷◌, Some, Ok, Err
 use Rattle.mlir_tree.specs.declared.sign.Sign.TheVariants.{Signless}
 use Rattle.mlir_tree.specs.declared.value.Val.TheVariants.{Res}
 use Rattle.mlir_tree.specs.Tree.{Ty, int}
-use Rattle.mlir_parse.specs.declared.fault.ModKind.TheVariants as faults
+use Rattle.mlir_attributes.specs.declared.fault.ModKind.TheVariants as faults
 use Rattle.mlir_parse.specs.SynTree.{Operation, operation, Regions, no_regions, region_then, operations}
 use Rattle.mlir_resolve.specs.Laid.{region, laid_operation, implied_row}
 use Rattle.mlir_resolve.specs.Sight.{meaning_at, definitions, is_defined, is_named_before}

@@ -4,7 +4,7 @@ use Rattle.std.specs.Option.{option_or}
 use Rattle.std.proofs.lemmas.List.{length-append, length-map, map-append}
 use Rattle.mlir_tree.specs.declared.row.Home.{Home}
 use Rattle.mlir_tree.specs.declared.row.Row.{Row}
-use Rattle.mlir_parse.specs.declared.fault.ModFault.{ModFault}
+use Rattle.mlir_attributes.specs.declared.fault.ModFault.{ModFault}
 use Rattle.mlir_parse.specs.declared.syn.SynArg.{SynArg}
 use Rattle.mlir_parse.specs.SynTree.{Head, Operation, operation, Regions, no_regions, region_then, Operations, no_operations, operation_then, operations}
 use Rattle.mlir_parse.specs.Limits.{operation_count, operations_count}

@@ -5,10 +5,6 @@ pub mod Uses
 pub mod Shared
 pub mod Steps
 pub mod Modules
-pub mod Searching
-pub mod Indexing
-pub mod Walks
-pub mod BadUses
 pub mod Spans
 pub mod RowFacts
 pub mod Nested

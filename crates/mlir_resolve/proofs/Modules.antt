@@ -4,7 +4,7 @@ use Rattle.std.specs.Prelude.{◌==◌, codes}
 use Rattle.std.specs.Str.{bytes_eq}
 use Rattle.std.proofs.lemmas.Bool.{ne_eqb}
 use Rattle.mlir_tree.specs.declared.row.Row.{Row}
-use Rattle.mlir_parse.specs.declared.fault.ModFault.{ModFault}
+use Rattle.mlir_attributes.specs.declared.fault.ModFault.{ModFault}
 use Rattle.mlir_parse.specs.declared.syn.SynRegion.{SynRegion}
 use Rattle.mlir_parse.specs.SynTree.{Head, Operation, operation, operations}
 use Rattle.mlir_parse.specs.SynView.{region_tree}

@@ -15,9 +15,9 @@ use Rattle.mlir_tree.specs.Module.{has_row, is_earlier, row_of, enclosing, home_
 use Rattle.mlir_tree.specs.WellFormed.{AreDistinct, AreNested, IsEarlierRegion}
 use Rattle.mlir_parse.specs.SynTree.{Operation}
 use Rattle.mlir_resolve.specs.Laid.{Laid, implied_head, region, row_with, laid_operation, argument_types}
-use Rattle.mlir_resolve.specs.Walking.{number_at, around_place}
-use Rattle.mlir_resolve.proofs.Searching.{order}
-use Rattle.mlir_resolve.proofs.Walks.{not_later, not_earlier, earlier_place, enclosed_at, outer_home, no_home, row_at}
+use Rattle.row_index.specs.Walking.{number_at, around_place}
+use Rattle.row_index.proofs.Searching.{order}
+use Rattle.row_index.proofs.Walks.{not_later, not_earlier, earlier_place, enclosed_at, outer_home, no_home, row_at}
 use Rattle.mlir_resolve.proofs.Spans.{AllAt, operation_numbers, IsNumber, IsRowRun, IsRegionRun, IsBefore, is_between, leads_to_row, leads_to_region}
 use Rattle.mlir_resolve.proofs.RowFacts.{Facts, tree_facts, homes_before, fact_of, fact_at}
 

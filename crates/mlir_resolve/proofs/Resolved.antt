@@ -9,8 +9,8 @@ use Rattle.std.proofs.lemmas.Grind.{flat_map-append}
 use Rattle.std.proofs.lemmas.List.{length-map}
 use Rattle.mlir_tree.specs.declared.row.Home.{Home}
 use Rattle.mlir_tree.specs.Tree.{Ty}
-use Rattle.mlir_parse.specs.declared.fault.ModFault.{ModFault}
-use Rattle.mlir_parse.specs.declared.fault.ModKind.TheVariants as faults
+use Rattle.mlir_attributes.specs.declared.fault.ModFault.{ModFault}
+use Rattle.mlir_attributes.specs.declared.fault.ModKind.TheVariants as faults
 use Rattle.mlir_parse.specs.declared.syn.Syn.{Syn}
 use Rattle.mlir_parse.specs.declared.syn.SynArg.{SynArg}
 use Rattle.mlir_parse.specs.declared.syn.SynResult.{SynResult}

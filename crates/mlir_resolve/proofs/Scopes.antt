@@ -2,8 +2,8 @@
 use Rattle.std.proofs.Common.{◌≡◌, ℕ, Bool, true, false, cond, List, [], ◌∷◌, ◌++◌, map, Option, Some, None, refl, sym, ap, ◌∙◌, Bor}
 use Rattle.std.specs.Prelude.{Result, Ok, Err, if◌then◌else◌}
 use Rattle.indexmap.specs.IndexMap.{insert_entry}
-use Rattle.mlir_parse.specs.declared.fault.ModFault.{ModFault}
-use Rattle.mlir_parse.specs.declared.fault.ModKind.TheVariants as faults
+use Rattle.mlir_attributes.specs.declared.fault.ModFault.{ModFault}
+use Rattle.mlir_attributes.specs.declared.fault.ModKind.TheVariants as faults
 use Rattle.std.specs.Option.{option_map, is_some}
 use Rattle.std.specs.Bool.{Decides}
 use Rattle.std.specs.Map.{lookup}

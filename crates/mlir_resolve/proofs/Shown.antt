@@ -19,7 +19,7 @@ use Rattle.mlir_parse.specs.SynTree.{Operation}
 use Rattle.mlir_resolve.specs.Laid.{Laid, region, laid_operation, bare_rows}
 use Rattle.mlir_resolve.specs.Sight.{Definition, result_definitions, argument_definitions, region_definitions, row_definitions, definitions, is_of_region, first_in_sight, meaning_at}
 use Rattle.mlir_resolve.specs.Scopes.{find_name}
-use Rattle.mlir_resolve.specs.Walking.{around_place}
+use Rattle.row_index.specs.Walking.{around_place}
 use Rattle.mlir_resolve.proofs.Spans.{AllAt, operation_numbers, IsNumber}
 use Rattle.mlir_resolve.proofs.RowFacts.{fact_of}
 use Rattle.mlir_resolve.proofs.Nested.{blank, row_of_is, earlier_is, enclosing_is}

@@ -7,10 +7,10 @@ use Rattle.mlir_tree.specs.declared.refusal.Refusal.{Refusal}
 use Rattle.mlir_tree.specs.declared.row.Home.{Home}
 use Rattle.mlir_tree.specs.declared.row.Row.{Row}
 use Rattle.mlir_tree.specs.declared.rows.Rows.{Rows}
-use Rattle.mlir_parse.specs.declared.fault.ModFault.{ModFault}
+use Rattle.mlir_attributes.specs.declared.fault.ModFault.{ModFault}
 use Rattle.mlir_parse.specs.declared.syn.Syn.{Syn}
 use Rattle.mlir_parse.specs.SynTree.{Operation, operation, Regions, no_regions, region_then, Operations, no_operations, operation_then, operations}
-use Rattle.mlir_parse.specs.Input.{Gives}
+use Rattle.mlir_attributes.specs.Input.{Gives}
 use Rattle.mlir_parse.specs.Limits.{KeepsLimits, operation_count, operations_count, operation_slots, region_slots, operations_slots}
 use Rattle.mlir_resolve.specs.Laid.{Laid, region, laid_operation, laid_regions, laid_operations, is_module, implied_module, module_of}
 use Rattle.mlir_resolve.specs.Resolving.{names_at, used_value, resolved, resolved_row, resolved_rows, rows_or, operation_fault, slots_of}

@@ -4,12 +4,12 @@ use Rattle.mlir_tree.specs.declared.refusal.Refusal.{Refusal}
 use Rattle.mlir_tree.specs.declared.refusal.Refusal.TheVariants as refusals
 use Rattle.mlir_tree.specs.declared.row.Home.{Home}
 use Rattle.mlir_tree.specs.declared.row.Row.{Row}
-use Rattle.mlir_parse.specs.declared.fault.ModFault.{ModFault}
+use Rattle.mlir_attributes.specs.declared.fault.ModFault.{ModFault}
 use Rattle.mlir_parse.specs.declared.syn.SynRegion.{SynRegion}
 use Rattle.mlir_parse.specs.SynTree.{Operation, operation, operations}
 use Rattle.mlir_parse.specs.SynView.{region_tree}
 use Rattle.mlir_parse.specs.SynSize.{operation_size, regions_size}
-use Rattle.mlir_parse.specs.Input.{Gives}
+use Rattle.mlir_attributes.specs.Input.{Gives}
 use Rattle.mlir_parse.specs.Limits.{operation_count, operations_count, region_operation_count, region_count, IsOperationKept, AreOperationsKept, AreRegionsKept}
 use Rattle.mlir_resolve.specs.Scopes.{Fails, Leaves}
 use Rattle.mlir_resolve.specs.Sight.{Definition}

@@ -8,8 +8,8 @@ use Rattle.std.proofs.lemmas.List.{append_assoc}
 use Rattle.mlir_resolve.proofs.Trees.{drop_item}
 use Rattle.mlir_tree.specs.Tree.{Ty}
 use Rattle.mlir_tree.specs.Order.{ty_cmp}
-use Rattle.mlir_parse.specs.declared.fault.ModFault.{ModFault}
-use Rattle.mlir_parse.specs.declared.fault.ModKind.TheVariants as faults
+use Rattle.mlir_attributes.specs.declared.fault.ModFault.{ModFault}
+use Rattle.mlir_attributes.specs.declared.fault.ModKind.TheVariants as faults
 use Rattle.mlir_parse.specs.declared.syn.SynUse.{SynUse}
 use Rattle.mlir_resolve.specs.declared.named.Named.{Named}
 use Rattle.mlir_resolve.specs.Sight.{value_at}

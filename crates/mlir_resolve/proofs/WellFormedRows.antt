@@ -20,9 +20,9 @@ use Rattle.mlir_tree.specs.Module.{row_of, has_argument, is_value, is_in_scope, 
 use Rattle.mlir_tree.specs.WellFormed.{BeginsWithModule, HomesAreLower, HasVisibleOperands, names, HasDictionaries, HasSizes, IsWellFormed}
 use Rattle.mlir_tree.specs.declared.refusal.Refusal.{Refusal}
 use Rattle.mlir_tree.specs.declared.refusal.Refusal.TheVariants as refusal
-use Rattle.mlir_parse.specs.Input.{Gives}
-use Rattle.mlir_parse.specs.declared.fault.ModFault.{ModFault}
-use Rattle.mlir_parse.specs.declared.fault.ModKind.TheVariants as faults
+use Rattle.mlir_attributes.specs.Input.{Gives}
+use Rattle.mlir_attributes.specs.declared.fault.ModFault.{ModFault}
+use Rattle.mlir_attributes.specs.declared.fault.ModKind.TheVariants as faults
 use Rattle.mlir_parse.specs.declared.syn.Syn.{Syn}
 use Rattle.mlir_parse.specs.declared.syn.SynArg.{SynArg}
 use Rattle.mlir_parse.specs.declared.syn.SynEntry.{SynEntry}

@@ -4,6 +4,3 @@ pub mod Resolving
 pub mod Scopes
 pub mod Walk
 pub mod Heads
-pub mod BadUses
-pub mod Walking
-pub mod Indexing

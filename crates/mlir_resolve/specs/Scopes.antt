@@ -2,8 +2,8 @@
 use Rattle.std.specs.Prelude.{◌≡◌, ℕ, List, [], ◌∷◌, ◌++◌, find, Option, None, Result, Ok, Err, if◌then◌else◌}
 use Rattle.mlir_tree.specs.declared.refusal.Refusal.{Refusal}
 use Rattle.mlir_tree.specs.declared.refusal.Refusal.TheVariants as refusals
-use Rattle.mlir_parse.specs.declared.fault.ModFault.{ModFault}
-use Rattle.mlir_parse.specs.declared.fault.ModKind.TheVariants as faults
+use Rattle.mlir_attributes.specs.declared.fault.ModFault.{ModFault}
+use Rattle.mlir_attributes.specs.declared.fault.ModKind.TheVariants as faults
 use Rattle.std.proofs.Common.{refl, ◌⊎◌, inl, inr}
 use Rattle.std.specs.Coded.{Coded, code_by, coded×, coded⊎, coded_ℕ, coded_list}
 use Rattle.std.specs.Option.{option_or, is_some}

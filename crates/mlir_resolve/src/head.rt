@@ -2,7 +2,7 @@
 
 ghost use Rattle.std.specs.Prelude.{◌≡◌, ◌≤◌, map, filter_map, IfOk, Ok};
 ghost use Rattle.mlir_tree.specs.declared.refusal.Refusal.TheVariants.{Fault};
-ghost use Rattle.mlir_parse.specs.Input.{Gives};
+ghost use Rattle.mlir_attributes.specs.Input.{Gives};
 ghost use Rattle.mlir_parse.specs.SynView.{region_tree};
 ghost use Rattle.mlir_parse.specs.Limits.{IsOperationKept};
 ghost use Rattle.mlir_resolve.specs.Laid.{argument_types, arguments_of};
@@ -12,7 +12,7 @@ ghost use Rattle.mlir_resolve.specs.Walk.{names_in, head_of, head_row, unless};
 use crate::entries::{dict, least_shared_place};
 use crate::operands::operands;
 use crate::scope::{Refused, Scope};
-use mlir_parse::fault::{ModFault, ModKind};
+use mlir_attributes::fault::{ModFault, ModKind};
 use mlir_parse::syn::{SynArg, SynOp, SynRegion};
 use mlir_tree::refusal::Refusal;
 use mlir_tree::row::{Home, RegionList, Row};

@@ -3,16 +3,13 @@
 
 mod entries;
 mod head;
-pub mod index;
 mod module;
 mod named;
 mod operands;
-mod places;
 mod puts;
 mod scope;
 mod sight;
-mod visibility;
 mod walk;
 
 pub use module::resolve;
-pub use visibility::{well_formed, well_formed_by};
+pub use row_index::well_formed;

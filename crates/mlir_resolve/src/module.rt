@@ -2,7 +2,7 @@
 
 ghost use Rattle.std.specs.Prelude.{◌≡◌, ◌≤◌, [], ◌∷◌, length, Ok, IfOk, OnOk, None};
 ghost use Rattle.mlir_tree.specs.WellFormed.{HomesAreLower, IsWellFormed};
-ghost use Rattle.mlir_parse.specs.Input.{Gives};
+ghost use Rattle.mlir_attributes.specs.Input.{Gives};
 ghost use Rattle.mlir_parse.specs.Limits.{KeepsLimits};
 ghost use Rattle.mlir_parse.specs.SynTree.{operations};
 ghost use Rattle.mlir_parse.specs.Limits.{operations_count, AreOperationsKept, IsOperationKept};
@@ -12,12 +12,12 @@ ghost use Rattle.mlir_resolve.specs.Walk.{after, head_of, operation_walk, walked
 
 use crate::scope::{Refused, Scope};
 use crate::walk::{walk_op, walk_ops};
-use mlir_parse::fault::ModFault;
+use mlir_attributes::fault::ModFault;
 use mlir_parse::syn::{Syn, SynOp};
 use mlir_tree::refusal::Refusal;
 use mlir_tree::row::{Home, Row};
-use mlir_tree::value::ValList;
 use mlir_tree::rows::{RowList, Rows};
+use mlir_tree::value::ValList;
 use shared_list::Shared;
 use shared_text::SharedText;
 use sqlite_items::Items;

@@ -9,7 +9,7 @@ ghost use Rattle.mlir_resolve.specs.Heads.{Means, Takes, type_step};
 use crate::named::Named;
 use crate::scope::{Refused, Scope};
 use crate::sight::{defines, find_meaning};
-use mlir_parse::fault::{ModFault, ModKind};
+use mlir_attributes::fault::{ModFault, ModKind};
 use mlir_parse::syn::{SynOp, SynUse};
 use mlir_tree::refusal::Refusal;
 use mlir_tree::ty::Ty;

@@ -10,7 +10,7 @@ ghost use Rattle.mlir_resolve.specs.Walk.{put_arguments, put_names, put_results,
 use crate::head::refused;
 use crate::named::Named;
 use crate::scope::{Refused, Scope};
-use mlir_parse::fault::ModKind;
+use mlir_attributes::fault::ModKind;
 use mlir_parse::syn::{SynArg, SynOp, SynResult};
 use mlir_tree::ty::Ty;
 use mlir_tree::value::Val;

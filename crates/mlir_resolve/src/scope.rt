@@ -6,7 +6,7 @@ ghost use Rattle.mlir_resolve.specs.Scopes.{find_name, named, put_name, Leaves};
 
 use crate::named::Named;
 use indexmap::IndexMap;
-use mlir_parse::fault::{ModFault, ModKind};
+use mlir_attributes::fault::{ModFault, ModKind};
 use mlir_tree::refusal::Refusal;
 use sqlite_items::Items;
 use std::alloc::{AllocError, Global};

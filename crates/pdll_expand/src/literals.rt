@@ -1,11 +1,11 @@
 //! The attributes and types that literals spell.
 
 ghost use Rattle.std.specs.Prelude.{◌≡◌, IfOk, IsUtf8};
-ghost use Rattle.mlir_parse.specs.Types.{type_of};
-ghost use Rattle.mlir_parse.specs.Attributes.{attr_of};
+ghost use Rattle.mlir_attributes.specs.Types.{type_of};
+ghost use Rattle.mlir_attributes.specs.Attributes.{attr_of};
 ghost use Rattle.rewrite_model.specs.MatchPart.{literal_attr, literal_type, attr_spelled, type_spelled};
 
-use mlir_parse::{parse_attr, parse_ty};
+use mlir_attributes::{parse_attr, parse_ty};
 use mlir_tree::attr::Attr;
 use mlir_tree::refusal::Refusal;
 use mlir_tree::ty::Ty;

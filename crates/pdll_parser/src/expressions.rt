@@ -14,6 +14,7 @@ use mlir_tree::refusal::Refusal;
 use pdll_syntax::expr::{Entry, Expr, ExprForm, OpExpr, Ref, RefForm};
 use pdll_syntax::fault::PatFault;
 use pdll_syntax::name::{Literal, Text};
+use shared_text::SharedText;
 use sqlite_items::Items;
 use std::alloc::Global;
 use text_scan::strings::read_string;
@@ -37,7 +38,7 @@ fn literal(alloc: Global, reader: &mut Reader<'_>) -> Result<Literal, Refusal<Pa
 {
     let at = reader.start();
     let text = reader.text_of(Terminal::String)?;
-    let bytes = Items::from_vec(read_string(alloc, text)?);
+    let bytes = SharedText::new(alloc, Items::from_vec(read_string(alloc, text)?))?;
     Ok(Literal { at, bytes })
 }
 
@@ -51,7 +52,8 @@ fn dotted_name(alloc: Global, reader: &mut Reader<'_>) -> Result<Text, Refusal<P
         let mut word = Items::from_slice(alloc, reader.word()?)?;
         if !reader.eat(Terminal::Dot) {
             found.append(word)?;
-            return Ok(found);
+            let all = SharedText::new(alloc, found)?;
+            return Ok(all);
         }
         word.push(b'.')?;
         found.append(word)?;
@@ -65,8 +67,11 @@ fn entry_name(alloc: Global, reader: &mut Reader<'_>) -> Result<Text, Refusal<Pa
     ensures { Reads (spec.entry_name reader.old) result reader.new }
 {
     match reader.peek() {
-        Terminal::String => Ok(Items::from_vec(read_string(alloc, reader.take())?)),
-        _ => Ok(Items::from_slice(alloc, reader.word()?)?),
+        Terminal::String => {
+            let bytes = Items::from_vec(read_string(alloc, reader.take())?);
+            Ok(SharedText::new(alloc, bytes)?)
+        }
+        _ => Ok(SharedText::from_slice(alloc, reader.word()?)?),
     }
 }
 
@@ -246,7 +251,7 @@ fn reference_form(
             reader.take();
             Ok(RefForm::Values(maybe_of(alloc, reader, depth)?))
         }
-        _ => Ok(RefForm::Named(Items::from_slice(alloc, reader.name()?)?)),
+        _ => Ok(RefForm::Named(SharedText::from_slice(alloc, reader.name()?)?)),
     }
 }
 
@@ -462,7 +467,7 @@ fn named(
 ) -> Result<ExprForm, Refusal<PatFault>>
     ensures { ReadsAs expr_form (spec.named (spec.room_of depth) name.now reader.old) result reader.new }
 {
-    let name = Items::from_slice(alloc, name)?;
+    let name = SharedText::from_slice(alloc, name)?;
     match reader.peek() {
         Terminal::LeftParen => Ok(ExprForm::Call(name, arguments(alloc, reader, depth)?)),
         Terminal::Colon => {

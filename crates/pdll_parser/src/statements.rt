@@ -16,6 +16,7 @@ use pdll_syntax::expr::Ref;
 use pdll_syntax::fault::PatFault;
 use pdll_syntax::name::Name;
 use pdll_syntax::stmt::{Stmt, StmtForm, Values};
+use shared_text::SharedText;
 use sqlite_items::Items;
 use std::alloc::Global;
 
@@ -25,7 +26,7 @@ pub fn declared_name(alloc: Global, reader: &mut Reader<'_>) -> Result<Name, Ref
     ensures { Reads (spec.declared_name reader.old) result reader.new }
 {
     let at = reader.start();
-    let text = Items::from_slice(alloc, reader.name()?)?;
+    let text = SharedText::from_slice(alloc, reader.name()?)?;
     Ok(Name { at, text })
 }
 

@@ -6,7 +6,5 @@ mod expressions;
 mod size;
 mod sizes;
 mod statements;
-#[cfg(test)]
-mod tests;
 
 pub use sizes::Sizes;

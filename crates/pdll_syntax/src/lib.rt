@@ -6,5 +6,3 @@ pub mod fault;
 pub mod file;
 pub mod name;
 pub mod stmt;
-#[cfg(test)]
-mod tests;

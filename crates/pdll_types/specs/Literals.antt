@@ -2,8 +2,8 @@
 -- Expression").
 use Rattle.std.specs.Prelude.{ℕ, Bool, not, ◌&&◌, ◌==◌, List, [], length, is_ok}
 use Rattle.std.specs.Str.Lossy.{utf8_valid_len}
-use Rattle.mlir_parse.specs.Types.{type_of}
-use Rattle.mlir_parse.specs.Attributes.{attr_of}
+use Rattle.mlir_attributes.specs.Types.{type_of}
+use Rattle.mlir_attributes.specs.Attributes.{attr_of}
 use Rattle.pdll_syntax.specs.ExprTree.{ExprForm, attr_expr, type_expr}
 use Rattle.pdll_types.specs.Signatures.{Declared}
 use Rattle.pdll_types.specs.Mentions.{Mention, use_of}

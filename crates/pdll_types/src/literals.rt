@@ -1,8 +1,8 @@
 //! The texts of literals.
 
 ghost use Rattle.std.specs.Prelude.{◌≡◌, IfOk, IsUtf8, is_ok};
-ghost use Rattle.mlir_parse.specs.Types.{type_of};
-ghost use Rattle.mlir_parse.specs.Attributes.{attr_of};
+ghost use Rattle.mlir_attributes.specs.Types.{type_of};
+ghost use Rattle.mlir_attributes.specs.Attributes.{attr_of};
 ghost use Rattle.pdll_syntax.specs.ExprView.{expr_form};
 ghost use Rattle.pdll_types.specs.Accepted.{faults};
 ghost use Rattle.pdll_types.specs.Literals.{is_attr_text, is_type_text, bad_literal};
@@ -10,7 +10,7 @@ ghost use Rattle.pdll_types.specs.Walk.{all_noted};
 ghost use Rattle.pdll_syntax.specs.declared.fault.PatKind.TheVariants.{BadLiteral};
 
 use crate::walk::noted_where;
-use mlir_parse::{parse_attr, parse_ty};
+use mlir_attributes::{parse_attr, parse_ty};
 use mlir_tree::refusal::Refusal;
 use pdll_syntax::expr::ExprForm;
 use pdll_syntax::fault::{PatFault, PatKind};

@@ -6,9 +6,9 @@ use Rattle.rw_outside.proofs.Put.{appended-nil}
 use Rattle.pdll_syntax.specs.Faults.{code_text}
 use Rattle.pdll_syntax.specs.declared.fault.PatKind.{PatKind}
 use Rattle.pdll_syntax.specs.declared.fault.PatKind.TheVariants as pat_kinds
-use Rattle.mlir_parse.specs.Faults as module_faults
-use Rattle.mlir_parse.specs.declared.fault.ModKind.{ModKind}
-use Rattle.mlir_parse.specs.declared.fault.ModKind.TheVariants as mod_kinds
+use Rattle.mlir_attributes.specs.Faults as module_faults
+use Rattle.mlir_attributes.specs.declared.fault.ModKind.{ModKind}
+use Rattle.mlir_attributes.specs.declared.fault.ModKind.TheVariants as mod_kinds
 use Rattle.pdllrw_command.specs.declared.position.Position.{Position}
 use Rattle.pdllrw_command.specs.declared.status.Status.{Status}
 use Rattle.pdllrw_command.specs.declared.status.Status.TheVariants as statuses

@@ -4,8 +4,8 @@ use Rattle.std.specs.Prelude.{true}
 use Rattle.pdll_syntax.specs.declared.fault.PatFault.{PatFault}
 use Rattle.mlir_parse.specs.declared.syn.Syn.{Syn}
 use Rattle.mlir_parse.specs.FileGrammar.{IsModuleFile}
-use Rattle.mlir_parse.specs.Faults as module_faults
-use Rattle.mlir_parse.specs.declared.fault.ModFault.{ModFault}
+use Rattle.mlir_attributes.specs.Faults as module_faults
+use Rattle.mlir_attributes.specs.declared.fault.ModFault.{ModFault}
 use Rattle.mlir_resolve.specs.Resolving.{resolved}
 use Rattle.pdll_syntax.specs.declared.file.PatFile.{PatFile}
 use Rattle.pdll_parser.specs.FileGrammar.{IsPatternFile}

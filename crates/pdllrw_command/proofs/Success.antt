@@ -12,7 +12,7 @@ use Rattle.pdll_types.proofs.Exclusive.{accepted_files_have_no_fault}
 use Rattle.mlir_parse.proofs.FilesComplete as module_files
 use Rattle.mlir_parse.specs.declared.syn.Syn.{Syn}
 use Rattle.mlir_parse.specs.FileGrammar.{IsModuleFile}
-use Rattle.mlir_parse.specs.declared.fault.ModFault.{ModFault}
+use Rattle.mlir_attributes.specs.declared.fault.ModFault.{ModFault}
 use Rattle.mlir_tree.specs.declared.rows.Rows.{Rows}
 use Rattle.mlir_resolve.specs.Resolving.{resolved}
 use Rattle.pdllrw_command.specs.declared.status.Status.{Status}

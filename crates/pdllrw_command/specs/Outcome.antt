@@ -15,10 +15,10 @@ use Rattle.pdll_syntax.specs.declared.fault.PatKind.{PatKind}
 use Rattle.pdll_syntax.specs.declared.fault.PatKind.TheVariants as pat_kinds
 use Rattle.mlir_parse.specs.declared.syn.Syn.{Syn}
 use Rattle.mlir_parse.specs.FileGrammar.{IsModuleFile}
-use Rattle.mlir_parse.specs.Faults as module_faults
-use Rattle.mlir_parse.specs.declared.fault.ModFault.{ModFault}
-use Rattle.mlir_parse.specs.declared.fault.ModKind.{ModKind}
-use Rattle.mlir_parse.specs.declared.fault.ModKind.TheVariants as mod_kinds
+use Rattle.mlir_attributes.specs.Faults as module_faults
+use Rattle.mlir_attributes.specs.declared.fault.ModFault.{ModFault}
+use Rattle.mlir_attributes.specs.declared.fault.ModKind.{ModKind}
+use Rattle.mlir_attributes.specs.declared.fault.ModKind.TheVariants as mod_kinds
 use Rattle.mlir_tree.specs.declared.rows.Rows.{Rows}
 use Rattle.mlir_tree.specs.WellFormed.{IsWellFormed}
 use Rattle.mlir_resolve.specs.Resolving.{resolved}

@@ -3,7 +3,7 @@ ghost use Rattle.std.specs.Prelude.{◌≡◌, ◌≤◌, ◌⊎◌, ℕ, List, 
 ghost use Rattle.mlir_tree.specs.WellFormed.{IsWellFormed};
 ghost use Rattle.pdll_syntax.specs.declared.fault.PatFault.{PatFault as Fault};
 ghost use Rattle.pdllrw_command.specs.Positions.{position_of};
-ghost use Rattle.mlir_parse.specs.declared.fault.ModFault.{ModFault as ModuleFault};
+ghost use Rattle.mlir_attributes.specs.declared.fault.ModFault.{ModFault as ModuleFault};
 ghost use Rattle.pdllrw_command.specs.Outcome.{RefusesPatterns, RefusesModule};
 ghost use Rattle.mlir_parse.specs.FileGrammar.{IsModuleFile};
 ghost use Rattle.mlir_parse.specs.Limits.{KeepsLimits};
@@ -13,7 +13,7 @@ ghost use Rattle.pdllrw_command.specs.Stops.{StopsPatterns, StopsModule};
 
 use crate::position::{FIRST, Position, position_of};
 use crate::status::Status;
-use mlir_parse::fault::{ModFault, ModKind};
+use mlir_attributes::fault::{ModFault, ModKind};
 use mlir_parse::parse_module;
 use mlir_parse::syn::Syn;
 use mlir_resolve::resolve;

@@ -1,6 +1,6 @@
 ghost use Rattle.std.specs.Prelude.{◌≡◌};
 
-use mlir_parse::fault::ModFault;
+use mlir_attributes::fault::ModFault;
 use pdll_syntax::fault::PatFault;
 use rewrite_model::run::{BoundKind, Broken};
 

@@ -17,7 +17,7 @@ use crate::status::Status;
 use command_line::{Failure, command};
 use greedy_driver::drive_rows;
 use itoa::Buffer;
-use mlir_parse::fault::ModKind;
+use mlir_attributes::fault::ModKind;
 use mlir_print::{Numbers, number, print_rows};
 use mlir_tree::rows::Rows;
 use pdll_syntax::fault::PatKind;

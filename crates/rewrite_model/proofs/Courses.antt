@@ -4,8 +4,8 @@ use Rattle.std.specs.Prelude.{filter}
 use Rattle.std.specs.List.{range_with_len}
 use Rattle.mlir_tree.specs.declared.rows.Rows.{Rows}
 use Rattle.mlir_tree.specs.declared.bad_use.BadUse.{BadUse}
-use Rattle.mlir_resolve.specs.BadUses.{bad_use}
-use Rattle.mlir_resolve.proofs.BadUses.{none_exactly}
+use Rattle.row_index.specs.BadUses.{bad_use}
+use Rattle.row_index.proofs.BadUses.{none_exactly}
 use Rattle.rewrite_model.specs.declared.run.Hit.{Hit}
 use Rattle.rewrite_model.specs.declared.run.Ending.{Ending}
 use Rattle.rewrite_model.specs.declared.run.Ending.TheVariants.{Converged, Bound, Broken}

@@ -1,7 +1,7 @@
 -- Small modules on which the checker computes matches and steps.
 use Rattle.std.specs.Prelude.{◌≡◌, ℕ, true, false, List, [], ◌∷◌, Some, Ok, Err, codes}
 use Rattle.std.proofs.Common.{refl}
-use Rattle.mlir_resolve.specs.BadUses.{bad_use}
+use Rattle.row_index.specs.BadUses.{bad_use}
 use Rattle.mlir_tree.specs.declared.row.Row.{Row}
 use Rattle.mlir_tree.specs.declared.rows.Rows.{Rows}
 use Rattle.mlir_tree.specs.declared.value.Val.TheVariants.{Res}

@@ -11,9 +11,9 @@ use Rattle.mlir_tree.specs.Module.{has_row, is_earlier, enclosing, home_eq, is_i
 use Rattle.mlir_tree.specs.WellFormed.{AreDistinct, IsEarlierRegion, AreNested}
 use Rattle.mlir_tree.specs.Laws.{is_parent}
 use Rattle.mlir_tree.proofs.Visibility.{or_false}
-use Rattle.mlir_resolve.specs.Walking.{number_at}
-use Rattle.mlir_resolve.proofs.Searching.{within, read_at}
-use Rattle.mlir_resolve.proofs.Walks.{one_place, enclosed_at, outer_home}
+use Rattle.row_index.specs.Walking.{number_at}
+use Rattle.row_index.proofs.Searching.{within, read_at}
+use Rattle.row_index.proofs.Walks.{one_place, enclosed_at, outer_home}
 use Rattle.rewrite_model.proofs.LayoutSubstituted.{with_home}
 use Rattle.rewrite_model.proofs.Places.{true_or_false, not_both, place_of, place_has, earlier_is_row, later_is_row, earlier_less, less_earlier, around_home, around_none}
 use Rattle.rewrite_model.proofs.PutIn.{row_of-inserted, has_row-inserted, is_earlier-inserted, enclosing-inserted, enclosing-new}

@@ -11,8 +11,8 @@ use Rattle.mlir_tree.specs.Module.{has_row, enclosing, home_eq, is_contained}
 use Rattle.mlir_tree.specs.WellFormed.{AreDistinct, IsModuleRow, BeginsWithModule, IsEarlierRegion, AreNested, HasDictionaries, HasSizes}
 use Rattle.mlir_tree.specs.Edits.{is_removed, removed}
 use Rattle.mlir_tree.proofs.Visibility.{or_false}
-use Rattle.mlir_resolve.specs.Walking.{number_at}
-use Rattle.mlir_resolve.proofs.Searching.{at_place}
+use Rattle.row_index.specs.Walking.{number_at}
+use Rattle.row_index.proofs.Searching.{at_place}
 use Rattle.rewrite_model.specs.Laws.{IsLaidOut}
 use Rattle.mlir_tree.proofs.Removal.{keep, row_of-keep, is_earlier-keep, enclosing-keep}
 use Rattle.rewrite_model.proofs.Places.{earlier_is_row, later_is_row, around_home, around_none}

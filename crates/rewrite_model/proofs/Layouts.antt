@@ -20,10 +20,10 @@ use Rattle.mlir_tree.specs.Module.{row_of, has_row}
 use Rattle.mlir_tree.specs.WellFormed.{AreDistinct, BeginsWithModule, AreNested, names, HasDictionaries, HasSizes}
 use Rattle.mlir_tree.specs.Edits.{place_before, put_before, inserted}
 use Rattle.mlir_tree.proofs.Nesting.{homes_are_rows}
-use Rattle.mlir_parse.specs.Dictionary.{put_entry}
-use Rattle.mlir_resolve.specs.Walking.{number_at}
-use Rattle.mlir_resolve.proofs.Searching.{within}
-use Rattle.mlir_resolve.proofs.Walks.{row_at}
+use Rattle.mlir_attributes.specs.Dictionary.{put_entry}
+use Rattle.row_index.specs.Walking.{number_at}
+use Rattle.row_index.proofs.Searching.{within}
+use Rattle.row_index.proofs.Walks.{row_at}
 use Rattle.rewrite_model.specs.Making.{sorted}
 use Rattle.rewrite_model.specs.Laws.{IsLaidOut}
 use Rattle.rewrite_model.proofs.Told.{some_or}

@@ -7,9 +7,9 @@ use Rattle.mlir_tree.specs.declared.row.Home.{Home}
 use Rattle.mlir_tree.specs.declared.row.Row.{Row}
 use Rattle.mlir_tree.specs.Module.{has_row, is_earlier, enclosing}
 use Rattle.mlir_tree.specs.WellFormed.{AreDistinct, AreNested}
-use Rattle.mlir_resolve.specs.Walking.{around_place, number_at}
-use Rattle.mlir_resolve.proofs.Searching.{within, read_at}
-use Rattle.mlir_resolve.proofs.Walks.{enclosed_at, outer_home, no_home, not_later, not_earlier, earlier_place, home_before, home_there}
+use Rattle.row_index.specs.Walking.{around_place, number_at}
+use Rattle.row_index.proofs.Searching.{within, read_at}
+use Rattle.row_index.proofs.Walks.{enclosed_at, outer_home, no_home, not_later, not_earlier, earlier_place, home_before, home_there}
 
 pub true_or_false : (b : Bool) → (b ≡ true) ⊎ (b ≡ false)
 true_or_false true = inl refl

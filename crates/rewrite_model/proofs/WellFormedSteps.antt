@@ -11,7 +11,7 @@ use Rattle.mlir_tree.specs.Tree.{Ty, Attr}
 use Rattle.mlir_tree.specs.Module.{row_of}
 use Rattle.mlir_tree.specs.WellFormed.{HasSizes, IsWellFormed}
 use Rattle.mlir_tree.specs.Edits.{substituted, removed}
-use Rattle.mlir_resolve.specs.BadUses.{bad_use}
+use Rattle.row_index.specs.BadUses.{bad_use}
 use Rattle.rewrite_model.specs.declared.run.Break.TheVariants.{Gone, Count, Types, Top, NativeRefused}
 use Rattle.rewrite_model.specs.declared.run.BoundKind.TheVariants.{RowLimit, SlotLimit}
 use Rattle.rewrite_model.specs.Pattern.{Parts, Part, Making, attr_literal, type_literal, new_operation, result_of, only_result_of, results_of, result_types_of, native, Action, makes, replaces, erases, Pattern}

@@ -11,7 +11,7 @@ use Rattle.mlir_tree.specs.Tree.{Ty, Attr}
 use Rattle.mlir_tree.specs.Module.{row_of, has_row}
 use Rattle.mlir_tree.specs.Edits.{inserted, substituted, removed}
 use Rattle.mlir_tree.specs.Laws.{owner_of}
-use Rattle.mlir_parse.specs.Dictionary.{put_entry}
+use Rattle.mlir_attributes.specs.Dictionary.{put_entry}
 use Rattle.native_set.specs.declared.native.Rewrite.{Rewrite}
 use Rattle.native_set.specs.declared.native.Rewrite.TheVariants.{AddInt, MulInt, NegInt}
 use Rattle.native_set.specs.Arithmetic.{sum, product, negative, is_same}

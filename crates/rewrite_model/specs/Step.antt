@@ -4,7 +4,7 @@ use Rattle.std.specs.List.{range_with_len}
 use Rattle.mlir_tree.specs.declared.rows.Rows.{Rows}
 use Rattle.mlir_tree.specs.declared.bad_use.BadUse.{BadUse as Use}
 use Rattle.mlir_tree.specs.Module.{has_row}
-use Rattle.mlir_resolve.specs.BadUses.{bad_use}
+use Rattle.row_index.specs.BadUses.{bad_use}
 use Rattle.rewrite_model.specs.declared.run.Break.TheVariants.{BadUse}
 use Rattle.rewrite_model.specs.Pattern.{Pattern}
 use Rattle.rewrite_model.specs.Things.{Thing}

@@ -12,3 +12,4 @@ pub mod Stepping
 pub mod Marking
 pub mod Counting
 pub mod Sample
+pub mod Turned

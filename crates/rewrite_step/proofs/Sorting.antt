@@ -8,7 +8,7 @@ use Rattle.std.specs.declared.cmp.Ordering.TheVariants.{Less, Equal, Greater}
 use Rattle.std.specs.declared.alloc.Global.{Global}
 use Rattle.mlir_tree.specs.Tree.{Attr}
 use Rattle.mlir_tree.specs.Order.{text_cmp}
-use Rattle.mlir_parse.specs.Dictionary.{put_entry, entry_of}
+use Rattle.mlir_attributes.specs.Dictionary.{put_entry, entry_of}
 use Rattle.rewrite_model.specs.Making.{sorted}
 use Rattle.rewrite_step.specs.Sorting.{put_all}
 

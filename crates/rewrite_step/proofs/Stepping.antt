@@ -5,7 +5,7 @@ use Rattle.mlir_tree.specs.declared.row.Row.{Row}
 use Rattle.mlir_tree.specs.declared.rows.Rows.{Rows}
 use Rattle.mlir_tree.specs.declared.refusal.Refusal.{Refusal}
 use Rattle.mlir_tree.specs.declared.refusal.Refusal.TheVariants.{Fault, NoMemory}
-use Rattle.mlir_resolve.specs.BadUses.{bad_use}
+use Rattle.row_index.specs.BadUses.{bad_use}
 use Rattle.rewrite_model.specs.Laws.{IsLaidOut, RewritesKeepLayout}
 use Rattle.rewrite_model.specs.Pattern.{Action, Pattern}
 use Rattle.rewrite_model.specs.Things.{Thing}

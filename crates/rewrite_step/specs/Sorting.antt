@@ -1,7 +1,7 @@
 -- Entries that are put into a dictionary.
 use Rattle.std.specs.Prelude.{ℕ, List, [], ◌∷◌}
 use Rattle.mlir_tree.specs.Tree.{Attr}
-use Rattle.mlir_parse.specs.Dictionary.{put_entry}
+use Rattle.mlir_attributes.specs.Dictionary.{put_entry}
 
 -- the last first
 abbrev pub put_all : List (List ℕ × Attr) → List (List ℕ × Attr) → List (List ℕ × Attr)

@@ -13,14 +13,17 @@ use crate::edits::insert;
 use crate::places::{are_live, row_of};
 use crate::progress::{Progress, Start};
 use crate::stop::{Stop, bound, breaks};
-use mlir_tree::attr::Dict;
+use mlir_tree::attr::Attr;
 use mlir_tree::refusal::Refusal;
 use mlir_tree::row::{Home, Row};
+use mlir_tree::text::Text;
 use mlir_tree::ty::TyList;
 use mlir_tree::value::{Val, ValList};
 use pdll_patterns::action::Parts;
 use rewrite_model::run::{BoundKind, Break};
 use row_matcher::thing::Thing;
+use shared_list::Shared;
+use shared_text::SharedText;
 use sqlite_items::Items;
 use std::alloc::{AllocError, Global};
 
@@ -47,7 +50,7 @@ fn new_row(
     home: Option<Home>,
     name: &[u8],
     operands: ValList,
-    entries: &mut Dict,
+    entries: &mut Items<(Text, Attr)>,
     types: TyList,
 ) -> Result<Row, AllocError>
     ensures { IfOk result (λ row. row ≡ row_with home id name.now operands entries.old types) }
@@ -55,12 +58,12 @@ fn new_row(
     Ok(Row {
         id,
         home,
-        name: Items::from_slice(alloc, name)?,
+        name: SharedText::from_slice(alloc, name)?,
         operands,
         results: types,
-        props: Items::new(alloc),
+        props: Shared::empty(),
         attrs: sorted(alloc, entries)?,
-        regions: Items::new(alloc),
+        regions: Shared::empty(),
     })
 }
 
@@ -105,7 +108,7 @@ impl Progress {
         home: Option<Home>,
         name: &[u8],
         operands: ValList,
-        entries: &mut Dict,
+        entries: &mut Items<(Text, Attr)>,
         types: TyList,
     ) -> Result<(), Refusal<Stop>>
         ensures { Ends (λ _. progress_of self.new) (added (start_of start.now) (progress_of self.old) home name.now operands entries.old types) result }
@@ -123,7 +126,7 @@ impl Progress {
         start: &Start<'_>,
         name: &[u8],
         operands: ValList,
-        entries: &mut Dict,
+        entries: &mut Items<(Text, Attr)>,
         types: TyList,
     ) -> Result<(), Refusal<Stop>>
         ensures { Ends (λ _. progress_of self.new) (created (start_of start.now) (progress_of self.old) name.now operands entries.old types) result }

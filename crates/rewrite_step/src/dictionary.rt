@@ -1,11 +1,14 @@
 //! Entries in the order of their names.
 
 ghost use Rattle.std.specs.Prelude.{◌≡◌, [], IfOk, OnOk};
-ghost use Rattle.mlir_parse.specs.Dictionary as spec;
+ghost use Rattle.mlir_attributes.specs.Dictionary as spec;
 ghost use Rattle.rewrite_model.specs.Making.{sorted};
 ghost use Rattle.rewrite_step.specs.Sorting.{put_all};
 
 use mlir_tree::attr::{Attr, Dict};
+use mlir_tree::text::Text;
+use shared_list::Shared;
+use shared_text::SharedText;
 use sqlite_items::Items;
 use std::alloc::{AllocError, Global};
 use std::collections::BTreeMap;
@@ -22,7 +25,7 @@ fn put_entry(alloc: Global, found: &mut Named, name: &[u8], value: Attr) -> Resu
 }
 
 // Puts entries in their places, the last first.
-fn put_entries(alloc: Global, found: &mut Named, entries: &mut Dict) -> Result<(), AllocError>
+fn put_entries(alloc: Global, found: &mut Named, entries: &mut Items<(Text, Attr)>) -> Result<(), AllocError>
     ensures { OnOk result (spec.named found.new ≡ put_all entries.old (spec.named found.old)) }
 {
     while let Some((name, value)) = entries.pop() {
@@ -37,13 +40,15 @@ fn in_order(alloc: Global, found: Named) -> Result<Dict, AllocError>
 {
     let mut all = Items::new(alloc);
     for (name, value) in found {
-        all.push((Items::from_vec(name), value))?;
+        let name = SharedText::new(alloc, Items::from_vec(name))?;
+        all.push((name, value))?;
     }
-    Ok(all)
+    let dict = Shared::new(alloc, all)?;
+    Ok(dict)
 }
 
 /// A dictionary with these entries. Of two with one name the earlier counts.
-pub fn sorted(alloc: Global, entries: &mut Dict) -> Result<Dict, AllocError>
+pub fn sorted(alloc: Global, entries: &mut Items<(Text, Attr)>) -> Result<Dict, AllocError>
     ensures { IfOk result (λ d. d ≡ sorted entries.old) }
 {
     let mut found = BTreeMap::new(alloc);

@@ -8,12 +8,12 @@ ghost use Rattle.mlir_tree.specs.Edits as spec;
 ghost use Rattle.rewrite_step.specs.Removing.{is_inner, has_inner_home, stays, stands_in, has_inner};
 ghost use Rattle.rewrite_step.specs.Substituting.{is_replaced, uses_any};
 
+use crate::moves::put_back;
 use crate::places::place_of;
 use indexmap::IndexMap;
 use mlir_tree::row::{Home, Row};
 use mlir_tree::rows::{RowList, Rows};
 use mlir_tree::value::{Val, ValList};
-use row_edits::removal::put_back;
 use sqlite_items::Items;
 use std::alloc::{AllocError, Global};
 
@@ -180,7 +180,7 @@ fn substitute_of(from: &[Val], to: &[Val], value: Val) -> Val
 }
 
 // Puts in the place of each value what stands for it.
-fn substitute_values(values: &mut ValList, from: &[Val], to: &[Val])
+fn substitute_values(values: &mut Items<Val>, from: &[Val], to: &[Val])
     ensures { values.new ≡ map (spec.substitute from.now to.now) values.old }
 {
     for at in 0..values.len() {
@@ -208,8 +208,10 @@ fn uses_any(operands: &[Val], from: &[Val]) -> bool
 fn substituted_row(alloc: Global, row: &Row, from: &[Val], to: &[Val]) -> Result<Row, AllocError>
     ensures { IfOk result (λ r. r ≡ spec.substituted_row from.now to.now row.now) }
 {
+    let mut operands = Items::from_slice(alloc, row.operands.as_slice())?;
+    substitute_values(&mut operands, from, to);
     let mut substituted = row.copy(alloc)?;
-    substitute_values(&mut substituted.operands, from, to);
+    substituted.operands = ValList::new(alloc, operands)?;
     Ok(substituted)
 }
 

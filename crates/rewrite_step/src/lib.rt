@@ -7,6 +7,7 @@ mod dictionary;
 pub mod edits;
 pub mod erasing;
 pub mod making;
+mod moves;
 pub mod natives;
 pub mod places;
 pub mod progress;

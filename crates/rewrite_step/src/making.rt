@@ -38,7 +38,8 @@ pub fn results_of(alloc: Global, row: &Row) -> Result<ValList, AllocError>
         }
         found.push(Val::Res(row.id, k as u16))?;
     }
-    Ok(found)
+    let all = ValList::new(alloc, found)?;
+    Ok(all)
 }
 
 // The result of a native, or that it has none.

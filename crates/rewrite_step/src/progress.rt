@@ -1,6 +1,6 @@
 //! How far a step came, and what its parts are.
 
-ghost use Rattle.std.specs.Prelude.{◌≡◌, List, ◌∷◌, [], IfOk, Some, map, slice_get};
+ghost use Rattle.std.specs.Prelude.{◌≡◌, List, ◌∷◌, ◌++◌, [], IfOk, OnOk, Some, map, slice_get};
 ghost use Rattle.std.specs.Option.{option_and_then, option_copied, option_map};
 ghost use Rattle.rewrite_model.specs.declared.run.Break.TheVariants.{Gone};
 ghost use Rattle.mlir_tree.specs.declared.row.Row.{Row as RowOf};
@@ -15,16 +15,19 @@ ghost use Rattle.rewrite_step.specs.Ends.{Ends};
 
 use crate::places::{only_result_at, result_at, row_at, row_of};
 use crate::stop::{Stop, breaks};
-use mlir_tree::attr::Dict;
+use mlir_tree::attr::Attr;
 use mlir_tree::refusal::Refusal;
 use mlir_tree::row::Row;
 use mlir_tree::rows::Rows;
-use mlir_tree::ty::TyList;
-use mlir_tree::value::ValList;
+use mlir_tree::text::Text;
+use mlir_tree::ty::{Ty, TyList};
+use mlir_tree::value::{Val, ValList};
 use pdll_expand::expr::Expr;
 use pdll_patterns::action::{NamedPart, Part};
 use rewrite_model::run::Break;
 use row_matcher::thing::Thing;
+use shared_list::Shared;
+use shared_text::SharedText;
 use sqlite_items::Items;
 use std::alloc::{AllocError, Global};
 
@@ -52,6 +55,16 @@ fn copy_of(alloc: Global, x: Option<&Thing>) -> Result<Option<Thing>, AllocError
         None => Ok(None),
         Some(x) => Ok(Some(x.copy(alloc)?)),
     }
+}
+
+// Adds equal types.
+fn append_types(alloc: Global, found: &mut Items<Ty>, types: &[Ty]) -> Result<(), AllocError>
+    ensures { OnOk result (found.new ≡ found.old ++ types.now) }
+{
+    for ty in types {
+        found.push(ty.copy(alloc)?)?;
+    }
+    Ok(())
 }
 
 // The number of an operation.
@@ -147,13 +160,13 @@ impl Progress {
         alloc: Global,
         start: &Start<'_>,
         x: Part,
-        found: &mut ValList,
+        found: &mut Items<Val>,
     ) -> Result<(), Refusal<Stop>>
         ensures { Ends (λ _. found.new) (spec.or_break Gone (things.joined (Some found.old) (option_and_then things.values_in (spec.part (start_of start.now) (progress_of self.now) (part_of x))))) result }
     {
         match self.part(alloc, start, x)? {
             Some(Thing::Value(value)) => Ok(found.push(value)?),
-            Some(Thing::Values(values)) => Ok(found.append(values)?),
+            Some(Thing::Values(values)) => Ok(found.append(Items::from_slice(alloc, values.as_slice())?)?),
             _ => Err(breaks(Break::Gone)),
         }
     }
@@ -173,7 +186,8 @@ impl Progress {
                 return Err(e);
             }
         }
-        Ok(found)
+        let all = ValList::new(alloc, found)?;
+        Ok(all)
     }
 
     fn add_types(
@@ -181,13 +195,13 @@ impl Progress {
         alloc: Global,
         start: &Start<'_>,
         x: Part,
-        found: &mut TyList,
+        found: &mut Items<Ty>,
     ) -> Result<(), Refusal<Stop>>
         ensures { Ends (λ _. found.new) (spec.or_break Gone (things.joined (Some found.old) (option_and_then things.types_in (spec.part (start_of start.now) (progress_of self.now) (part_of x))))) result }
     {
         match self.part(alloc, start, x)? {
             Some(Thing::Ty(ty)) => Ok(found.push(ty)?),
-            Some(Thing::Tys(tys)) => Ok(found.append(tys)?),
+            Some(Thing::Tys(tys)) => Ok(append_types(alloc, found, tys.as_slice())?),
             _ => Err(breaks(Break::Gone)),
         }
     }
@@ -207,7 +221,8 @@ impl Progress {
                 return Err(e);
             }
         }
-        Ok(found)
+        let all = Shared::new(alloc, found)?;
+        Ok(all)
     }
 
     fn add_entry(
@@ -215,12 +230,12 @@ impl Progress {
         alloc: Global,
         start: &Start<'_>,
         x: &NamedPart<'_>,
-        found: &mut Dict,
+        found: &mut Items<(Text, Attr)>,
     ) -> Result<(), Refusal<Stop>>
         ensures { Ends (λ _. found.new) (spec.or_break Gone (things.joined (Some found.old) (option_map (λ e. e ∷ []) (spec.entry_at (start_of start.now) (progress_of self.now) (named_part_of x.now))))) result }
     {
         match self.part(alloc, start, x.part)? {
-            Some(Thing::Attr(value)) => Ok(found.push((Items::from_slice(alloc, x.name)?, value))?),
+            Some(Thing::Attr(value)) => Ok(found.push((SharedText::from_slice(alloc, x.name)?, value))?),
             _ => Err(breaks(Break::Gone)),
         }
     }
@@ -231,7 +246,7 @@ impl Progress {
         alloc: Global,
         start: &Start<'_>,
         xs: &[NamedPart<'_>],
-    ) -> Result<Dict, Refusal<Stop>>
+    ) -> Result<Items<(Text, Attr)>, Refusal<Stop>>
         ensures { Ends (λ es. es) (spec.entries_at (start_of start.now) (progress_of self.now) (map named_part_of xs.now)) result }
     {
         let mut found = Items::new(alloc);

@@ -3,9 +3,9 @@
 ghost use Rattle.std.specs.Prelude.{◌≡◌, ◌≤◌, ◌+◌, ◌∷◌, ◌++◌, [], length, take, IsTrue, OnOk};
 
 use crate::edits::one_row;
+use crate::moves::put_back;
 use mlir_tree::row::Row;
 use mlir_tree::rows::{RowList, Rows, copy_rows};
-use row_edits::removal::put_back;
 use std::alloc::{AllocError, Global};
 
 /// By how many rows the copy may be longer or shorter, so that its rows are looked at one by one.

@@ -2,8 +2,8 @@
 
 ghost use Rattle.std.specs.Prelude.{◌≡◌, [], map, filter, IfOk};
 ghost use Rattle.std.specs.List.{range_with_len};
-ghost use Rattle.mlir_resolve.specs.BadUses.{bad_use};
-ghost use Rattle.mlir_resolve.specs.Indexing.{Indexes};
+ghost use Rattle.row_index.specs.BadUses.{bad_use};
+ghost use Rattle.row_index.specs.Indexing.{Indexes};
 ghost use Rattle.rewrite_model.specs.Laws.{IsLaidOut};
 ghost use Rattle.rewrite_model.specs.Pattern.{Pattern};
 ghost use Rattle.rewrite_model.specs.Making.{all_slots};
@@ -16,8 +16,8 @@ ghost use Rattle.rewrite_step.specs.Marking.{marked, is_marked, was_removed, Are
 
 use crate::progress::{Progress, Start};
 use crate::stop::{Stop, breaks};
-use mlir_resolve::index::RowIndex;
-use mlir_resolve::well_formed_by;
+use row_index::index::RowIndex;
+use row_index::well_formed_by;
 use mlir_tree::refusal::Refusal;
 use mlir_tree::row::{IdList, Row};
 use mlir_tree::rows::Rows;

@@ -9,11 +9,11 @@ use Rattle.mlir_lexer.specs.declared.token.TokenKind.TheVariants as k
 use Rattle.mlir_lexer.proofs.Classes.{suffix_start_no_quote}
 use Rattle.mlir_tree.specs.Tree.{Ty, Attr, unit, int_attr, num, str, sym as symbols, of_ty, array, dict, kept, Attrs, no_attrs, attr_then, Entries, no_entries, entry_then, attrs}
 use Rattle.mlir_print.specs.Text.{string_text, is_bare, name_text, typed_text, more_symbols_text, symbols_text, is_unit, entry_by, attr_text, attrs_text, more_attrs_text, entries_text, more_entries_text}
-use Rattle.mlir_parse.specs.Place.{Place, moved}
-use Rattle.mlir_parse.specs.Types.{is_kept_word}
-use Rattle.mlir_parse.specs.Attributes.{symbol_name}
-use Rattle.mlir_parse.specs.Grammar.{IsSpelled}
-use Rattle.mlir_parse.specs.AttributeGrammar.{AreMore, IsString, IsSymbol, AreSymbols, IsEntryName, AreAttrs, IsBehindName, IsEntry, AreEntries, HasKeptBody, IsKeptAttr, IsPlainAttr, IsAttr}
+use Rattle.mlir_attributes.specs.Place.{Place, moved}
+use Rattle.mlir_attributes.specs.Types.{is_kept_word}
+use Rattle.mlir_attributes.specs.Attributes.{symbol_name}
+use Rattle.mlir_attributes.specs.Grammar.{IsSpelled}
+use Rattle.mlir_attributes.specs.AttributeGrammar.{AreMore, IsString, IsSymbol, AreSymbols, IsEntryName, AreAttrs, IsBehindName, IsEntry, AreEntries, HasKeptBody, IsKeptAttr, IsPlainAttr, IsAttr}
 use Rattle.round_trip.specs.Printable.{AreBytes, IsTyped, IsWholeBody, IsAttrFront, IsAttrWord, IsPrintableAttr, ArePrintableAttrs, ArePrintableEntries}
 use Rattle.round_trip.proofs.Places.{Is, Faces, Reads, faces, space, spelled, marked, lacks}
 use Rattle.round_trip.proofs.Tokens.{Stops, word_begins, hash_form, string_begins, symbol_begins, quoted_begins, word_suffix}

@@ -9,7 +9,7 @@ use Rattle.mlir_tree.specs.declared.number.Number.{Number}
 use Rattle.mlir_tree.specs.Tree.{Ty, int, index, func, word, Attr, unit, int_attr, num, str, sym as symbols, of_ty, array, dict, kept}
 use Rattle.mlir_tree.specs.Range.{IsInRange}
 use Rattle.mlir_print.specs.Text.{string_text, ty_text, is_bit, bit_text, number_text, int_text, colon_type_text, symbols_text, typed_text, attr_text}
-use Rattle.mlir_parse.specs.Attributes.{signed_text}
+use Rattle.mlir_attributes.specs.Attributes.{signed_text}
 use Rattle.round_trip.specs.Printable.{IsNumberText, IsTypeFront, IsAttrFront}
 use Rattle.round_trip.proofs.Decimals.{decimal_wide}
 use Rattle.round_trip.proofs.Numbers.{in_range, number_begun}

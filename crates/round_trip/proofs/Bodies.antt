@@ -14,11 +14,11 @@ use Rattle.mlir_lexer.specs.declared.body.Effect.TheVariants.{Opens, Closes, Fai
 use Rattle.mlir_lexer.specs.declared.body.BodyFault.{BodyFault}
 use Rattle.mlir_lexer.specs.declared.body.BodyFault.TheVariants.{Unclosed, TooDeep, BadString}
 use Rattle.mlir_lexer.specs.declared.token.TokenKind.TheVariants as k
-use Rattle.mlir_parse.specs.declared.aliases.Alias.{Alias}
-use Rattle.mlir_parse.specs.Place.{Place, moved}
-use Rattle.mlir_parse.specs.KeptText.{Names, names, in_front, used_at, is_mark, may_be_used, closers_after}
-use Rattle.mlir_parse.specs.Types.{opens_body, max_open}
-use Rattle.mlir_parse.specs.Grammar.{IsBody, IsMark}
+use Rattle.mlir_attributes.specs.declared.aliases.Alias.{Alias}
+use Rattle.mlir_attributes.specs.Place.{Place, moved}
+use Rattle.mlir_attributes.specs.KeptText.{Names, names, in_front, used_at, is_mark, may_be_used, closers_after}
+use Rattle.mlir_attributes.specs.Types.{opens_body, max_open}
+use Rattle.mlir_attributes.specs.Grammar.{IsBody, IsMark}
 use Rattle.round_trip.specs.Printable.{IsWholeBody}
 use Rattle.round_trip.proofs.Places.{Is, Reads, faces, behind, token_there, marked}
 

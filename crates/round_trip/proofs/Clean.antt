@@ -21,12 +21,12 @@ use Rattle.mlir_tree.specs.WellFormed as well
 use Rattle.mlir_tree.specs.WellFormed.{AreDistinct, AreNested, BeginsWithModule, HasSizes, HasDictionaries, HasVisibleOperands}
 use Rattle.mlir_print.specs.ModuleText.{value_type}
 use Rattle.mlir_tree.proofs.Places.{IsAt}
-use Rattle.mlir_parse.specs.declared.fault.ModFault.{ModFault}
+use Rattle.mlir_attributes.specs.declared.fault.ModFault.{ModFault}
 use Rattle.mlir_parse.specs.declared.syn.SynArg.{SynArg}
 use Rattle.mlir_parse.specs.declared.syn.SynEntry.{SynEntry}
 use Rattle.mlir_parse.specs.declared.syn.SynResult.{SynResult}
 use Rattle.mlir_parse.specs.declared.syn.SynUse.{SynUse}
-use Rattle.mlir_parse.specs.Steps.{max_operations}
+use Rattle.mlir_attributes.specs.Steps.{max_operations}
 use Rattle.mlir_parse.specs.SynTree.{Head, Operation, operation, Regions, no_regions, region_then, Operations, no_operations, operation_then}
 use Rattle.mlir_parse.specs.Limits.{operation_count, operations_count}
 use Rattle.mlir_resolve.specs.Laid.{Laid, region, bare_rows, entry_pair, arguments_of, laid_operation, laid_regions, laid_operations}

@@ -6,9 +6,9 @@ use Rattle.std.proofs.lemmas.Bool.{ltb-true, ltb-false}
 use Rattle.std.proofs.lemmas.Fmt.{decimal_is_IsNumeral, decimal_is_IsNumeral_wide, decimal_digit, first_decimal}
 use Rattle.text_scan.specs.Bytes.{is_digit, AllAre}
 use Rattle.mlir_lexer.specs.Forms.{AreSome}
-use Rattle.mlir_parse.specs.Numbers.{is_hex, token_value}
-use Rattle.mlir_parse.specs.TypeGrammar.{IsDecimal}
-use Rattle.mlir_parse.proofs.Words.{digits_all}
+use Rattle.mlir_attributes.specs.Numbers.{is_hex, token_value}
+use Rattle.mlir_attributes.specs.TypeGrammar.{IsDecimal}
+use Rattle.mlir_attributes.proofs.Words.{digits_all}
 use Rattle.std.proofs.lemmas.Bool.{and_parts}
 use Rattle.std.proofs.lemmas.Bool.Decides.{nat_tests}
 use Rattle.std.specs.List.{list_all}

@@ -8,9 +8,9 @@ use Rattle.mlir_tree.specs.WellFormed as rows
 use Rattle.mlir_print.specs.Text.{is_unit, entry_by, attr_text, entries_text, more_entries_text}
 use Rattle.mlir_print.specs.ModuleText.{properties_text, attributes_text}
 use Rattle.mlir_parse.specs.declared.syn.SynEntry.{SynEntry}
-use Rattle.mlir_parse.specs.Place.{Place, moved, start}
-use Rattle.mlir_parse.specs.Grammar.{IsNot}
-use Rattle.mlir_parse.specs.Steps.{max_slots}
+use Rattle.mlir_attributes.specs.Place.{Place, moved, start}
+use Rattle.mlir_attributes.specs.Grammar.{IsNot}
+use Rattle.mlir_attributes.specs.Steps.{max_slots}
 use Rattle.mlir_parse.specs.Entries.{Placed, syn_entry}
 use Rattle.mlir_parse.specs.OperationGrammar.{Fills, IsEntryAt, IsDictionary, AreAttributes, AreProperties}
 use Rattle.mlir_resolve.specs.Laid.{entry_pair}

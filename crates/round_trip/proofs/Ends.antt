@@ -9,8 +9,8 @@ use Rattle.mlir_lexer.specs.declared.token.Token.{Token}
 use Rattle.mlir_lexer.specs.declared.token.TokenKind.{TokenKind}
 use Rattle.mlir_lexer.specs.declared.token.TokenKind.TheVariants as k
 use Rattle.mlir_lexer.specs.declared.token.LexFault.{LexFault}
-use Rattle.mlir_parse.specs.Place.{Place, is_kind_by}
-use Rattle.mlir_parse.specs.Grammar.{IsNot}
+use Rattle.mlir_attributes.specs.Place.{Place, is_kind_by}
+use Rattle.mlir_attributes.specs.Grammar.{IsNot}
 use Rattle.round_trip.proofs.Places.{Faces, spaces, lacks}
 use Rattle.round_trip.proofs.Tokens.{Stops}
 

@@ -11,7 +11,7 @@ use Rattle.mlir_tree.specs.Module.{enclosing}
 use Rattle.mlir_print.specs.ModuleText.{value_type}
 use Rattle.mlir_print.proofs.ModuleExamples.{i32, within, op, root}
 use Rattle.mlir_print.proofs.Sample.{described, nested, nested_is_well_formed}
-use Rattle.mlir_parse.specs.Types.{max_open}
+use Rattle.mlir_attributes.specs.Types.{max_open}
 use Rattle.round_trip.specs.Printable.{AreBytes, IsPrintableTy, IsPrintableAttr}
 use Rattle.round_trip.specs.PrintableRows.{room_of, IsPrintableRow, IsPrintable}
 use Rattle.round_trip.specs.Renumbering.{renumbered}

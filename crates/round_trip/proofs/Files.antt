@@ -14,9 +14,9 @@ use Rattle.mlir_print.specs.Cursor.{EndsRow}
 use Rattle.mlir_print.specs.ModuleText.{module_text}
 use Rattle.mlir_tree.proofs.Places.{true_or_false, IsAt, home_row}
 use Rattle.mlir_lexer.specs.declared.token.TokenKind.TheVariants as k
-use Rattle.mlir_parse.specs.Place.{moved, start_of}
-use Rattle.mlir_parse.specs.Types.{max_open}
-use Rattle.mlir_parse.specs.Steps.{max_operations, max_slots}
+use Rattle.mlir_attributes.specs.Place.{moved, start_of}
+use Rattle.mlir_attributes.specs.Types.{max_open}
+use Rattle.mlir_attributes.specs.Steps.{max_operations, max_slots}
 use Rattle.mlir_parse.specs.SynTree.{Operation}
 use Rattle.mlir_parse.specs.FileGrammar.{IsModuleFile}
 use Rattle.mlir_resolve.specs.Resolving.{slots_of}

@@ -10,7 +10,7 @@ use Rattle.std.proofs.lemmas.Cmp.{nat_list_cmp_total}
 use Rattle.mlir_tree.specs.Tree.{Attr, Entries, no_entries, entry_then, entries}
 use Rattle.mlir_tree.specs.Order.{text_cmp}
 use Rattle.mlir_tree.specs.Range.{AreRising, entry_names}
-use Rattle.mlir_parse.specs.AttributeGrammar.{Fills}
+use Rattle.mlir_attributes.specs.AttributeGrammar.{Fills}
 
 above : (n m : List ℕ) → text_cmp m n ≡ Less → text_cmp n m ≡ Greater
 above n m h = nat_list_cmp_total.antisymm n m ∙ ap ordering_reverse h

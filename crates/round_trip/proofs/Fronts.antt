@@ -8,9 +8,9 @@ use Rattle.mlir_print.specs.ModuleText.{results_text, properties_text, listed, v
 use Rattle.mlir_parse.specs.declared.syn.SynUse.{SynUse}
 use Rattle.mlir_parse.specs.declared.syn.SynResult.{SynResult}
 use Rattle.mlir_parse.specs.declared.syn.SynEntry.{SynEntry}
-use Rattle.mlir_parse.specs.Place.{Place, moved, start}
-use Rattle.mlir_parse.specs.Grammar.{IsMark, IsNot}
-use Rattle.mlir_parse.specs.Steps.{max_slots, max_operations, one_operation}
+use Rattle.mlir_attributes.specs.Place.{Place, moved, start}
+use Rattle.mlir_attributes.specs.Grammar.{IsMark, IsNot}
+use Rattle.mlir_attributes.specs.Steps.{max_slots, max_operations, one_operation}
 use Rattle.mlir_parse.specs.OperationGrammar.{AreOperands, IsOperationName, AreProperties, AreAttributes, AreOperandTypes, AreResultTypes, IsFront, IsBack}
 use Rattle.mlir_resolve.specs.Laid.{entry_pair}
 use Rattle.round_trip.proofs.Places.{Is, Faces, faces, space, marked}

@@ -18,7 +18,7 @@ use Rattle.mlir_print.specs.Numbering.{has_results, argument_number}
 use Rattle.mlir_print.specs.ModuleText.{argument_type, value_type}
 use Rattle.mlir_tree.proofs.Places.{IsAt}
 use Rattle.mlir_parse.specs.declared.syn.SynUse.{SynUse}
-use Rattle.mlir_parse.specs.Steps.{max_operations}
+use Rattle.mlir_attributes.specs.Steps.{max_operations}
 use Rattle.mlir_resolve.specs.Laid.{Laid, bare_rows}
 use Rattle.mlir_resolve.specs.Sight.{Definition, value_at, definitions, is_of_region, is_in_sight, first_in_sight, meaning_at, is_made_before, is_earlier_name, is_named_before}
 use Rattle.round_trip.specs.Renumbering.{new_number, new_value}

@@ -14,11 +14,11 @@ use Rattle.mlir_lexer.specs.declared.body.Effect.{Effect}
 use Rattle.mlir_lexer.specs.declared.body.Effect.TheVariants.{Opens, Closes, Fails, Passes}
 use Rattle.mlir_lexer.specs.declared.body.BodyFault.{BodyFault}
 use Rattle.mlir_lexer.specs.declared.body.BodyFault.TheVariants.{Unclosed, TooDeep, BadString}
-use Rattle.mlir_parse.specs.declared.nesting.Scan.{Scan}
-use Rattle.mlir_parse.specs.Brackets as brackets
-use Rattle.mlir_parse.specs.Brackets.{closers_by}
-use Rattle.mlir_parse.specs.KeptText.{closers_after}
-use Rattle.mlir_parse.specs.ModuleFile.{scan_to, scan_byte, scan_text, nesting}
+use Rattle.mlir_attributes.specs.declared.nesting.Scan.{Scan}
+use Rattle.mlir_attributes.specs.Brackets as brackets
+use Rattle.mlir_attributes.specs.Brackets.{closers_by}
+use Rattle.mlir_attributes.specs.KeptText.{closers_after}
+use Rattle.mlir_attributes.specs.Nesting.{scan_to, scan_byte, scan_text, nesting}
 use Rattle.round_trip.proofs.Bodies.{some_string}
 
 abbrev End : Type 0

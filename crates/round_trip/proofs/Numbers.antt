@@ -12,12 +12,12 @@ use Rattle.mlir_tree.specs.declared.number.Number.{Number}
 use Rattle.mlir_tree.specs.Tree.{Ty, int, index, func, word, int_attr}
 use Rattle.mlir_tree.specs.Range.{IsSignedRange, IsInRange}
 use Rattle.mlir_print.specs.Text.{ty_text, number_text, colon_type_text, typed_text, is_bit, bit_text, int_text}
-use Rattle.mlir_parse.specs.Place.{Place, moved}
-use Rattle.mlir_parse.specs.Numbers.{token_value, signed, is_wide, is_integral}
-use Rattle.mlir_parse.specs.Attributes.{signed_text, truth}
-use Rattle.mlir_parse.specs.Grammar.{IsSpelled, IsMark, IsNot}
-use Rattle.mlir_parse.specs.AttributeGrammar.{HasValue, IsNumber, IsInt, IsNum}
-use Rattle.mlir_parse.specs.AttributeGrammar as grammar
+use Rattle.mlir_attributes.specs.Place.{Place, moved}
+use Rattle.mlir_attributes.specs.Numbers.{token_value, signed, is_wide, is_integral}
+use Rattle.mlir_attributes.specs.Attributes.{signed_text, truth}
+use Rattle.mlir_attributes.specs.Grammar.{IsSpelled, IsMark, IsNot}
+use Rattle.mlir_attributes.specs.AttributeGrammar.{HasValue, IsNumber, IsInt, IsNum}
+use Rattle.mlir_attributes.specs.AttributeGrammar as grammar
 use Rattle.round_trip.specs.Printable.{IsTyped, IsNumberText, IsPrintableTy}
 use Rattle.round_trip.proofs.Places.{Is, Faces, Reads, faces, space, spelled, marked, lacks, Begins}
 use Rattle.round_trip.proofs.Tokens.{Stops, word_begins, integer_begins, float_begins}

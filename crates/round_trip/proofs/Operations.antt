@@ -11,9 +11,9 @@ use Rattle.mlir_tree.specs.WellFormed as rows
 use Rattle.mlir_print.specs.Text.{string_text, tys_text, entries_text, stands_bare, results_by}
 use Rattle.mlir_print.specs.ModuleText.{indent, results_text, listed, value_text, value_type_text, function_text, properties_text, attributes_text, label_text, is_empty, region_text, head_text, tail_text}
 use Rattle.mlir_parse.specs.declared.syn.SynArg.{SynArg}
-use Rattle.mlir_parse.specs.Place.{Place, moved, start}
-use Rattle.mlir_parse.specs.Grammar.{IsMark}
-use Rattle.mlir_parse.specs.Steps.{max_slots, max_operations, one_operation}
+use Rattle.mlir_attributes.specs.Place.{Place, moved, start}
+use Rattle.mlir_attributes.specs.Grammar.{IsMark}
+use Rattle.mlir_attributes.specs.Steps.{max_slots, max_operations, one_operation}
 use Rattle.mlir_parse.specs.SynTree.{Operations}
 use Rattle.mlir_parse.specs.OperationGrammar.{IsOperand, AreOperands, IsOperationName, AreProperties, AreAttributes, IsRegion, AreOperations}
 use Rattle.round_trip.specs.Printable.{AreBytes, ArePrintableEntries}

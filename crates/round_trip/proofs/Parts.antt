@@ -3,10 +3,10 @@ use Rattle.std.proofs.Common.{◌≡◌, ℕ, suc, ◌+◌, ◌≤◌, List, [],
 use Rattle.mlir_lexer.specs.declared.token.TokenKind.{TokenKind}
 use Rattle.mlir_lexer.specs.declared.token.TokenKind.TheVariants as k
 use Rattle.mlir_print.specs.ModuleText.{separator}
-use Rattle.mlir_parse.specs.Place.{Place, moved}
-use Rattle.mlir_parse.specs.Grammar.{IsNot}
-use Rattle.mlir_parse.specs.Steps.{max_slots}
-use Rattle.mlir_parse.specs.AttributeGrammar.{AreMore}
+use Rattle.mlir_attributes.specs.Place.{Place, moved}
+use Rattle.mlir_attributes.specs.Grammar.{IsNot}
+use Rattle.mlir_attributes.specs.Steps.{max_slots}
+use Rattle.mlir_attributes.specs.AttributeGrammar.{AreMore}
 use Rattle.mlir_parse.specs.Lists.{AreListed, InBrackets}
 use Rattle.round_trip.proofs.Places.{Is, Faces, Reads, faces, space, marked, Begins, lacks}
 use Rattle.round_trip.proofs.Ends.{Ends, comma_ends, paren_ends, brace_ends}

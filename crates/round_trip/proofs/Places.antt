@@ -8,9 +8,9 @@ use Rattle.mlir_lexer.specs.Scan.{first_token, token, token_at}
 use Rattle.mlir_lexer.specs.Tokens.{IsToken}
 use Rattle.mlir_lexer.specs.declared.token.Token.{Token}
 use Rattle.mlir_lexer.specs.declared.token.TokenKind.{TokenKind}
-use Rattle.mlir_parse.specs.Place.{Place, moved, sees, is_kind_by}
-use Rattle.mlir_parse.specs.Grammar.{IsSpelled, IsMark, IsNot}
-use Rattle.mlir_parse.proofs.Tokens.{token_stands, not_seen}
+use Rattle.mlir_attributes.specs.Place.{Place, moved, sees, is_kind_by}
+use Rattle.mlir_attributes.specs.Grammar.{IsSpelled, IsMark, IsNot}
+use Rattle.mlir_attributes.proofs.Tokens.{token_stands, not_seen}
 
 -- Behind the place stands this text.
 pub record Is (s : Place) (z : List ℕ) : Type 0 where

@@ -9,12 +9,12 @@ use Rattle.byte_lanes.specs.declared.class.Class.TheVariants as class
 use Rattle.mlir_lexer.specs.Forms.{is_suffix_start}
 use Rattle.mlir_lexer.specs.Scan.{suffix_len, digits}
 use Rattle.mlir_lexer.specs.Body.{body}
-use Rattle.mlir_parse.specs.declared.aliases.Alias.{Alias}
-use Rattle.mlir_parse.specs.declared.aliases.Meaning.{Meaning}
-use Rattle.mlir_parse.specs.declared.aliases.Meaning.TheVariants as meanings
-use Rattle.mlir_parse.specs.Aliases.{find, has_point}
+use Rattle.mlir_attributes.specs.declared.aliases.Alias.{Alias}
+use Rattle.mlir_attributes.specs.declared.aliases.Meaning.{Meaning}
+use Rattle.mlir_attributes.specs.declared.aliases.Meaning.TheVariants as meanings
+use Rattle.mlir_attributes.specs.Aliases.{find, has_point}
 use Rattle.mlir_parse.specs.ModuleFile.{meaning_text}
-use Rattle.mlir_parse.specs.KeptText.{used_at, unless_location, is_location, may_be_used, is_mark, put_text}
+use Rattle.mlir_attributes.specs.KeptText.{used_at, unless_location, is_location, may_be_used, is_mark, put_text}
 use Rattle.round_trip.proofs.Nesting.{IsOuter}
 use Rattle.round_trip.proofs.Sound.{class_outer, suffix_outer}
 use Rattle.round_trip.proofs.SoundTypes.{IsSoundMeaning, IsSoundAlias}

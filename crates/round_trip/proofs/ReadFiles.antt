@@ -7,10 +7,10 @@ use Rattle.mlir_tree.specs.declared.row.Row.{Row}
 use Rattle.mlir_tree.specs.declared.rows.Rows.{Rows}
 use Rattle.mlir_tree.specs.declared.value.Val.{Val}
 use Rattle.mlir_tree.specs.Module.{enclosing}
-use Rattle.mlir_parse.specs.declared.fault.ModFault.{ModFault}
+use Rattle.mlir_attributes.specs.declared.fault.ModFault.{ModFault}
 use Rattle.mlir_parse.specs.declared.syn.Syn.{Syn}
-use Rattle.mlir_parse.specs.Place.{start_of}
-use Rattle.mlir_parse.specs.Types.{max_open}
+use Rattle.mlir_attributes.specs.Place.{start_of}
+use Rattle.mlir_attributes.specs.Types.{max_open}
 use Rattle.mlir_parse.specs.SynTree.{Head, Operation}
 use Rattle.mlir_parse.specs.Limits.{KeepsLimits}
 use Rattle.mlir_parse.specs.FileGrammar.{IsModuleFile}

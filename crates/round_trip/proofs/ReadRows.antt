@@ -10,11 +10,11 @@ use Rattle.mlir_tree.specs.Tree.{tys}
 use Rattle.mlir_tree.specs.Module.{enclosing}
 use Rattle.mlir_print.specs.ModuleText.{value_type, is_empty}
 use Rattle.mlir_parse.specs.declared.syn.SynArg.{SynArg}
-use Rattle.mlir_parse.specs.Types.{max_open}
+use Rattle.mlir_attributes.specs.Types.{max_open}
 use Rattle.mlir_parse.specs.SynTree.{Head, Operation, operation, Regions, no_regions, region_then, Operations, no_operations, operation_then}
 use Rattle.mlir_parse.specs.Limits.{operation_count, operations_count}
 use Rattle.mlir_resolve.specs.Laid.{Laid, region, row_with, entry_pair, arguments_of, argument_types, laid_operation, laid_regions, laid_operations}
-use Rattle.mlir_resolve.specs.Walking.{around_place}
+use Rattle.row_index.specs.Walking.{around_place}
 use Rattle.mlir_resolve.proofs.Nested as nested_rows
 use Rattle.mlir_resolve.proofs.Nested.{blank, rows_by}
 use Rattle.mlir_resolve.proofs.Spans.{AllAt, all_behind, operation_length, operations_length}

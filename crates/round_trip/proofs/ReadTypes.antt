@@ -14,7 +14,7 @@ use Rattle.mlir_tree.specs.Order.{ty_cmp}
 use Rattle.mlir_tree.specs.Codes.{ty_same}
 use Rattle.mlir_tree.specs.Module.{row_of, enclosing}
 use Rattle.mlir_print.specs.ModuleText.{argument_type, value_type}
-use Rattle.mlir_parse.specs.declared.fault.ModFault.{ModFault}
+use Rattle.mlir_attributes.specs.declared.fault.ModFault.{ModFault}
 use Rattle.mlir_parse.specs.declared.syn.SynArg.{SynArg}
 use Rattle.mlir_parse.specs.declared.syn.SynResult.{SynResult}
 use Rattle.mlir_parse.specs.declared.syn.SynUse.{SynUse}

@@ -20,8 +20,8 @@ use Rattle.mlir_print.specs.Numbering.{has_results, with_results, arguments_of, 
 use Rattle.mlir_print.specs.ModuleText.{is_group, is_empty, argument_type, value_type}
 use Rattle.mlir_print.proofs.Counting.{few_of_row}
 use Rattle.mlir_tree.proofs.Places.{IsAt}
-use Rattle.mlir_parse.specs.Types.{max_open}
-use Rattle.mlir_parse.specs.Steps.{max_operations}
+use Rattle.mlir_attributes.specs.Types.{max_open}
+use Rattle.mlir_attributes.specs.Steps.{max_operations}
 use Rattle.round_trip.specs.Printable.{IsPrintableTy, ArePrintableTys, ArePrintableEntries}
 use Rattle.round_trip.specs.PrintableRows.{room_of, some_arguments, IsPrintableRow, IsPrintable}
 use Rattle.round_trip.proofs.Parts.{Facts}

@@ -12,9 +12,9 @@ use Rattle.mlir_print.specs.Text.{string_text, ty_text}
 use Rattle.mlir_print.specs.Numbering.{has_results, result_number, argument_number}
 use Rattle.mlir_print.specs.ModuleText.{indent, separator, is_group, group_text, results_text, argument_text, arguments_text, label_text}
 use Rattle.mlir_parse.specs.declared.syn.SynArg.{SynArg}
-use Rattle.mlir_parse.specs.Place.{Place, moved, start, is_kind_by}
-use Rattle.mlir_parse.specs.Grammar.{IsNot}
-use Rattle.mlir_parse.specs.Steps.{max_slots, max_parts}
+use Rattle.mlir_attributes.specs.Place.{Place, moved, start, is_kind_by}
+use Rattle.mlir_attributes.specs.Grammar.{IsNot}
+use Rattle.mlir_attributes.specs.Steps.{max_slots, max_parts}
 use Rattle.mlir_parse.specs.OperationGrammar.{IsMaybeLocation, IsArgument, IsLabel}
 use Rattle.round_trip.specs.Printable.{AreBytes}
 use Rattle.round_trip.proofs.Places.{Faces, faces, space, spaces, marked, lacks}

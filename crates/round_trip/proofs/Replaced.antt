@@ -11,8 +11,8 @@ use Rattle.mlir_lexer.specs.Body.{body, by_effect, effect_of, innermost, outer, 
 use Rattle.mlir_lexer.specs.declared.body.Effect.{Effect}
 use Rattle.mlir_lexer.specs.declared.body.Effect.TheVariants.{Opens, Closes, Fails, Passes}
 use Rattle.mlir_lexer.specs.declared.body.BodyFault.TheVariants.{Unclosed, TooDeep, BadString}
-use Rattle.mlir_parse.specs.declared.aliases.Alias.{Alias}
-use Rattle.mlir_parse.specs.KeptText.{Names, names, in_front, closers_after, used_at, is_mark, put_text, fits, or_use}
+use Rattle.mlir_attributes.specs.declared.aliases.Alias.{Alias}
+use Rattle.mlir_attributes.specs.KeptText.{Names, names, in_front, closers_after, used_at, is_mark, put_text, fits, or_use}
 use Rattle.round_trip.proofs.Bodies.{string_moves}
 use Rattle.round_trip.proofs.SoundTypes.{AreSoundAliases}
 use Rattle.round_trip.proofs.SpelledTypes.{wider}

@@ -10,8 +10,8 @@ use Rattle.text_scan.specs.Strings.{string_end}
 use Rattle.text_scan.proofs.StringLaws.{string_front}
 use Rattle.mlir_lexer.specs.Scan.{suffix_len}
 use Rattle.mlir_lexer.specs.Body.{effect_of, innermost}
-use Rattle.mlir_parse.specs.declared.aliases.Alias.{Alias}
-use Rattle.mlir_parse.specs.KeptText.{Names, names, in_front, closers_after, used_at, is_mark, put_text, fits, or_use}
+use Rattle.mlir_attributes.specs.declared.aliases.Alias.{Alias}
+use Rattle.mlir_attributes.specs.KeptText.{Names, names, in_front, closers_after, used_at, is_mark, put_text, fits, or_use}
 use Rattle.round_trip.proofs.Bodies.{some_string}
 use Rattle.round_trip.proofs.SoundTypes.{AreSoundAliases}
 use Rattle.round_trip.proofs.Put.{used_parts, alias_put, name_of}

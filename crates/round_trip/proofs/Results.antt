@@ -14,10 +14,10 @@ use Rattle.mlir_print.specs.Text.{ty_text, tys_text, more_tys_text, is_function,
 use Rattle.mlir_print.specs.Numbering.{has_results, result_number}
 use Rattle.mlir_print.specs.ModuleText.{is_group, group_text, results_text, value_type, value_type_text, listed, separator}
 use Rattle.mlir_parse.specs.declared.syn.SynResult.{SynResult}
-use Rattle.mlir_parse.specs.Place.{Place, moved, start}
-use Rattle.mlir_parse.specs.Grammar.{IsNot}
-use Rattle.mlir_parse.specs.TypeGrammar.{IsTy}
-use Rattle.mlir_parse.specs.Steps.{max_slots, max_parts, one_slot}
+use Rattle.mlir_attributes.specs.Place.{Place, moved, start}
+use Rattle.mlir_attributes.specs.Grammar.{IsNot}
+use Rattle.mlir_attributes.specs.TypeGrammar.{IsTy}
+use Rattle.mlir_attributes.specs.Steps.{max_slots, max_parts, one_slot}
 use Rattle.mlir_parse.specs.Lists.{AreListed}
 use Rattle.mlir_parse.specs.OperationGrammar.{IsMaybeCount, AreResults, IsResultType, AreOperandTypes, IsOneResultType, AreResultTypes}
 use Rattle.round_trip.specs.Printable.{IsPrintableTy, ArePrintableTys}

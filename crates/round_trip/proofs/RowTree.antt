@@ -9,7 +9,7 @@ use Rattle.mlir_print.specs.Text.{stands_bare}
 use Rattle.mlir_print.specs.Numbering.{result_number, argument_number}
 use Rattle.mlir_print.specs.ModuleText.{separator, region_text, head_text, tail_text}
 use Rattle.mlir_parse.specs.declared.syn.SynArg.{SynArg}
-use Rattle.mlir_parse.specs.Steps.{max_parts}
+use Rattle.mlir_attributes.specs.Steps.{max_parts}
 use Rattle.mlir_parse.specs.SynTree.{Head, Operation, operation, Regions, no_regions, region_then, Operations, no_operations, operation_then}
 use Rattle.mlir_resolve.specs.Laid.{entry_pair}
 use Rattle.round_trip.specs.Printable.{AreBytes, IsPrintableTy, ArePrintableTys, ArePrintableEntries}

@@ -5,8 +5,8 @@ use Rattle.mlir_lexer.specs.declared.token.TokenKind.TheVariants as k
 use Rattle.mlir_tree.specs.declared.row.Row.{Row}
 use Rattle.mlir_print.specs.Text.{string_text}
 use Rattle.mlir_print.specs.ModuleText.{indent, results_text, region_text}
-use Rattle.mlir_parse.specs.Place.{Place, moved}
-use Rattle.mlir_parse.specs.Steps.{max_slots, max_parts, max_operations}
+use Rattle.mlir_attributes.specs.Place.{Place, moved}
+use Rattle.mlir_attributes.specs.Steps.{max_slots, max_parts, max_operations}
 use Rattle.mlir_parse.specs.SynTree.{Operation, operation, Regions, no_regions, region_then, no_operations, operation_then}
 use Rattle.mlir_parse.specs.OperationGrammar.{IsRegion, IsOperation, AreRegions, AreMoreRegions, AreOperations, region_count}
 use Rattle.round_trip.proofs.Places.{Is, Faces, faces, space, spaces, marked, lacks}

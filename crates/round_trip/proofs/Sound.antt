@@ -9,11 +9,11 @@ use Rattle.mlir_lexer.specs.Body.{body}
 use Rattle.mlir_tree.specs.Tree.{Ty, int, index, func, word, Tys, no_tys, ty_then, Attr, unit, int_attr, num, str, sym as symbols, of_ty, array, dict, kept, Attrs, no_attrs, attr_then, Entries, no_entries, entry_then}
 use Rattle.mlir_tree.specs.Range.{IsInRange, AreRising, entry_names}
 use Rattle.mlir_print.specs.Text.{stands_bare}
-use Rattle.mlir_parse.specs.Aliases.{has_point}
-use Rattle.mlir_parse.specs.Types.{max_width, max_open}
-use Rattle.mlir_parse.specs.Numbers.{is_integral}
-use Rattle.mlir_parse.specs.TypeGrammar.{IsPlainWord}
-use Rattle.mlir_parse.specs.ModuleFile.{nesting}
+use Rattle.mlir_attributes.specs.Aliases.{has_point}
+use Rattle.mlir_attributes.specs.Types.{max_width, max_open}
+use Rattle.mlir_attributes.specs.Numbers.{is_integral}
+use Rattle.mlir_attributes.specs.TypeGrammar.{IsPlainWord}
+use Rattle.mlir_attributes.specs.Nesting.{nesting}
 use Rattle.round_trip.specs.Printable.{AreBytes, IsNumberText, IsWholeBody, HasWholeBody, IsTypeFront, IsTypeWord, IsAttrFront, IsAttrWord, IsTyped, IsPrintableTy, ArePrintableTys, IsPrintableAttr, ArePrintableAttrs, ArePrintableEntries}
 use Rattle.round_trip.specs.Brackets.{IsTyWithin, AreTysWithin, IsTypeWithin, IsAttrWithin, AreAttrsWithin, AreEntriesWithin}
 use Rattle.round_trip.proofs.Nesting.{IsOuter, narrow_body}

@@ -7,14 +7,14 @@ use Rattle.mlir_lexer.specs.declared.token.TokenKind.TheVariants as k
 use Rattle.mlir_tree.specs.declared.number.Number.{Number}
 use Rattle.mlir_tree.specs.Tree.{Ty, word, Attr, unit, int_attr, num, str, sym as symbols, of_ty, array, dict, kept, attrs, entries}
 use Rattle.mlir_tree.specs.Range.{IsInRange}
-use Rattle.mlir_parse.specs.Place.{Place}
-use Rattle.mlir_parse.specs.Numbers.{is_integral}
-use Rattle.mlir_parse.specs.Attributes.{number_type}
-use Rattle.mlir_parse.specs.AttributeGrammar as grammar
-use Rattle.mlir_parse.specs.AttributeGrammar.{AreMore, IsString, IsSymbol, AreSymbols, IsEntryName, AreAttrs, IsBehindName, IsEntry, AreEntries, Fills, IsIn, IsArray, IsDict, IsNumber, IsInt, IsNum, HasKeptBody, IsKeptAttr, IsPlainAttr, IsAttr}
-use Rattle.mlir_parse.proofs.Keeps.{keeps_entries}
+use Rattle.mlir_attributes.specs.Place.{Place}
+use Rattle.mlir_attributes.specs.Numbers.{is_integral}
+use Rattle.mlir_attributes.specs.Attributes.{number_type}
+use Rattle.mlir_attributes.specs.AttributeGrammar as grammar
+use Rattle.mlir_attributes.specs.AttributeGrammar.{AreMore, IsString, IsSymbol, AreSymbols, IsEntryName, AreAttrs, IsBehindName, IsEntry, AreEntries, Fills, IsIn, IsArray, IsDict, IsNumber, IsInt, IsNum, HasKeptBody, IsKeptAttr, IsPlainAttr, IsAttr}
+use Rattle.mlir_attributes.proofs.Keeps.{keeps_entries}
 use Rattle.round_trip.specs.Printable.{AreBytes, IsNumberText}
-use Rattle.mlir_parse.specs.declared.aliases.Alias.{Alias}
+use Rattle.mlir_attributes.specs.declared.aliases.Alias.{Alias}
 use Rattle.round_trip.proofs.Sound.{IsSoundTy, IsSoundType, IsSoundKept, IsSoundAttr, AreSoundAttrs, AreSoundEntries}
 use Rattle.round_trip.proofs.SoundTypes.{IsSoundMeaning, AreReady, use_text, body_same, ty_sound}
 use Rattle.round_trip.proofs.SpelledAttributes.{Fine, at_same, string_fine, symbols_fine, more_fine, entry_name_fine, no_int_float, sign_fine, no_end, truth_fine}

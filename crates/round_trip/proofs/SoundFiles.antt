@@ -9,17 +9,17 @@ use Rattle.std.proofs.lemmas.Str.{IsUtf8-between, IsCharBoundary-before_ascii, I
 use Rattle.mlir_lexer.specs.Body.{body, effect_of, innermost}
 use Rattle.mlir_lexer.specs.declared.token.TokenKind.{TokenKind}
 use Rattle.mlir_lexer.specs.declared.token.TokenKind.TheVariants as k
-use Rattle.mlir_parse.specs.declared.aliases.Alias.{Alias}
-use Rattle.mlir_parse.specs.declared.aliases.Meaning.{Meaning}
-use Rattle.mlir_parse.specs.declared.aliases.Meaning.TheVariants as meanings
-use Rattle.mlir_parse.specs.Aliases.{find}
-use Rattle.mlir_parse.specs.Place.{Place, start_of}
-use Rattle.mlir_parse.specs.Types.{max_open}
-use Rattle.mlir_parse.specs.KeptText.{names, closers_after, used_at}
-use Rattle.mlir_parse.specs.Grammar.{IsBody}
+use Rattle.mlir_attributes.specs.declared.aliases.Alias.{Alias}
+use Rattle.mlir_attributes.specs.declared.aliases.Meaning.{Meaning}
+use Rattle.mlir_attributes.specs.declared.aliases.Meaning.TheVariants as meanings
+use Rattle.mlir_attributes.specs.Aliases.{find}
+use Rattle.mlir_attributes.specs.Place.{Place, start_of}
+use Rattle.mlir_attributes.specs.Types.{max_open}
+use Rattle.mlir_attributes.specs.KeptText.{names, closers_after, used_at}
+use Rattle.mlir_attributes.specs.Grammar.{IsBody}
 use Rattle.mlir_parse.specs.SynTree.{Operation, operations}
 use Rattle.mlir_parse.specs.FileGrammar.{IsMeaning, IsDefinition, AreDefinitions, AreFileOperations}
-use Rattle.mlir_parse.proofs.Bodies.{opens_inside}
+use Rattle.mlir_attributes.proofs.Bodies.{opens_inside}
 use Rattle.mlir_parse.proofs.FilesComplete.{file_complete}
 use Rattle.mlir_parse.proofs.Counts.{file_kept}
 use Rattle.mlir_tree.specs.declared.rows.Rows.{Rows}

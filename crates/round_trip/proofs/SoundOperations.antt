@@ -10,15 +10,15 @@ use Rattle.mlir_lexer.specs.declared.token.TokenKind.TheVariants as k
 use Rattle.mlir_tree.specs.Tree.{Ty, tys, Attr, entries}
 use Rattle.mlir_tree.specs.Order.{text_cmp}
 use Rattle.mlir_parse.specs.declared.syn.SynEntry.{SynEntry}
-use Rattle.mlir_parse.specs.Place.{Place}
-use Rattle.mlir_parse.specs.TypeGrammar.{IsTy}
-use Rattle.mlir_parse.specs.Steps.{max_parts}
+use Rattle.mlir_attributes.specs.Place.{Place}
+use Rattle.mlir_attributes.specs.TypeGrammar.{IsTy}
+use Rattle.mlir_attributes.specs.Steps.{max_parts}
 use Rattle.mlir_parse.specs.Entries.{Placed, put_placed, syn_entry}
 use Rattle.mlir_parse.specs.Lists.{AreListed}
 use Rattle.mlir_parse.specs.OperationGrammar.{Fills, IsResultType, IsEntryAt, IsDictionary, AreAttributes, AreProperties, AreOperandTypes, IsOneResultType, AreResultTypes}
 use Rattle.mlir_resolve.specs.Laid.{entry_pair}
 use Rattle.round_trip.specs.Printable.{AreBytes}
-use Rattle.mlir_parse.specs.declared.aliases.Alias.{Alias}
+use Rattle.mlir_attributes.specs.declared.aliases.Alias.{Alias}
 use Rattle.round_trip.proofs.SpelledTypes.{mark_text}
 use Rattle.round_trip.proofs.Sound.{IsSoundTy, AreSoundTys, IsSoundAttr, AreSoundEntries}
 use Rattle.round_trip.proofs.SoundTypes.{AreReady, plain_sound, ty_sound}

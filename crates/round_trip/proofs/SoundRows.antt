@@ -12,8 +12,8 @@ use Rattle.mlir_print.specs.Text.{stands_bare}
 use Rattle.mlir_print.specs.ModuleText.{value_type}
 use Rattle.mlir_parse.specs.declared.syn.Syn.{Syn}
 use Rattle.mlir_parse.specs.declared.syn.SynArg.{SynArg}
-use Rattle.mlir_parse.specs.Types.{max_open}
-use Rattle.mlir_parse.specs.Steps.{max_operations}
+use Rattle.mlir_attributes.specs.Types.{max_open}
+use Rattle.mlir_attributes.specs.Steps.{max_operations}
 use Rattle.mlir_parse.specs.SynTree.{Head, Operation, operation, Regions, no_regions, region_then, Operations, no_operations, operation_then, operations}
 use Rattle.mlir_parse.specs.Limits.{KeepsLimits, operation_count, operations_count}
 use Rattle.mlir_resolve.specs.Laid.{Laid, region, row_with, entry_pair, arguments_of, argument_types, laid_operation, laid_regions, laid_operations, is_module, module_of, implied_module}

@@ -4,10 +4,10 @@ use Rattle.std.specs.Prelude.{IsUtf8}
 use Rattle.std.specs.List.{AllByRecursion}
 use Rattle.mlir_lexer.specs.declared.token.TokenKind.TheVariants as k
 use Rattle.mlir_tree.specs.Tree.{tys, entries}
-use Rattle.mlir_parse.specs.declared.aliases.Alias.{Alias}
+use Rattle.mlir_attributes.specs.declared.aliases.Alias.{Alias}
 use Rattle.mlir_parse.specs.declared.syn.SynArg.{SynArg}
-use Rattle.mlir_parse.specs.Place.{Place}
-use Rattle.mlir_parse.specs.Steps.{max_parts}
+use Rattle.mlir_attributes.specs.Place.{Place}
+use Rattle.mlir_attributes.specs.Steps.{max_parts}
 use Rattle.mlir_parse.specs.Lists.{AreListed}
 use Rattle.mlir_parse.specs.SynTree.{Head, Operation, operation, Regions, no_regions, region_then, Operations, no_operations, operation_then}
 use Rattle.mlir_parse.specs.OperationGrammar.{IsArgument, AreArguments, IsLabel, IsFront, IsBack, IsRegion, IsOperation, AreRegions, AreMoreRegions, AreOperations, region_count}

@@ -4,14 +4,14 @@ use Rattle.std.specs.Prelude.{IsUtf8}
 use Rattle.mlir_lexer.specs.declared.token.TokenKind.{TokenKind}
 use Rattle.mlir_lexer.specs.declared.token.TokenKind.TheVariants as k
 use Rattle.mlir_tree.specs.Tree.{Ty, int, index, func, word, Tys, no_tys, ty_then}
-use Rattle.mlir_parse.specs.declared.aliases.Alias.{Alias}
-use Rattle.mlir_parse.specs.declared.aliases.Meaning.{Meaning}
-use Rattle.mlir_parse.specs.declared.aliases.Meaning.TheVariants as meanings
-use Rattle.mlir_parse.specs.Place.{Place}
-use Rattle.mlir_parse.specs.Aliases.{find}
+use Rattle.mlir_attributes.specs.declared.aliases.Alias.{Alias}
+use Rattle.mlir_attributes.specs.declared.aliases.Meaning.{Meaning}
+use Rattle.mlir_attributes.specs.declared.aliases.Meaning.TheVariants as meanings
+use Rattle.mlir_attributes.specs.Place.{Place}
+use Rattle.mlir_attributes.specs.Aliases.{find}
 use Rattle.mlir_parse.specs.ModuleFile.{meaning_text}
-use Rattle.mlir_parse.specs.Grammar.{IsBody, IsUse}
-use Rattle.mlir_parse.specs.TypeGrammar.{IsKept, IsPlain, IsOne, IsTy, IsTys, IsMoreTys}
+use Rattle.mlir_attributes.specs.Grammar.{IsBody, IsUse}
+use Rattle.mlir_attributes.specs.TypeGrammar.{IsKept, IsPlain, IsOne, IsTy, IsTys, IsMoreTys}
 use Rattle.round_trip.proofs.Sound.{IsSoundBody, IsSoundTy, AreSoundTys, IsSoundAttr}
 use Rattle.round_trip.proofs.SpelledTypes.{form_of, same_text, mark_text, word_utf8, bang_utf8}
 use Rattle.round_trip.proofs.Utf8.{both}

@@ -13,14 +13,14 @@ use Rattle.mlir_tree.specs.declared.sign.Sign.{Sign}
 use Rattle.mlir_tree.specs.declared.sign.Sign.TheVariants.{Signless, Signed, Unsigned}
 use Rattle.mlir_tree.specs.Tree.{Ty, int, word, Attr, unit, int_attr, num, str, sym as symbols, of_ty, array, dict, kept, attrs, entries}
 use Rattle.mlir_tree.specs.Range.{IsInRange}
-use Rattle.mlir_parse.specs.Place.{Place}
-use Rattle.mlir_parse.specs.Numbers.{is_integral}
-use Rattle.mlir_parse.specs.Attributes.{truth, number_type}
-use Rattle.mlir_parse.specs.Grammar.{IsMark}
-use Rattle.mlir_parse.specs.TypeGrammar.{IsIntWord}
-use Rattle.mlir_parse.specs.AttributeGrammar as grammar
-use Rattle.mlir_parse.specs.AttributeGrammar.{AreMore, IsString, IsSymbol, AreSymbols, IsEntryName, AreAttrs, IsBehindName, IsEntry, AreEntries, Fills, IsIn, IsArray, IsDict, IsNumber, IsInt, IsNum, HasKeptBody, IsKeptAttr, IsPlainAttr, IsAttr}
-use Rattle.mlir_parse.proofs.Keeps.{keeps_entries}
+use Rattle.mlir_attributes.specs.Place.{Place}
+use Rattle.mlir_attributes.specs.Numbers.{is_integral}
+use Rattle.mlir_attributes.specs.Attributes.{truth, number_type}
+use Rattle.mlir_attributes.specs.Grammar.{IsMark}
+use Rattle.mlir_attributes.specs.TypeGrammar.{IsIntWord}
+use Rattle.mlir_attributes.specs.AttributeGrammar as grammar
+use Rattle.mlir_attributes.specs.AttributeGrammar.{AreMore, IsString, IsSymbol, AreSymbols, IsEntryName, AreAttrs, IsBehindName, IsEntry, AreEntries, Fills, IsIn, IsArray, IsDict, IsNumber, IsInt, IsNum, HasKeptBody, IsKeptAttr, IsPlainAttr, IsAttr}
+use Rattle.mlir_attributes.proofs.Keeps.{keeps_entries}
 use Rattle.round_trip.specs.Printable.{AreBytes, IsTyped, IsNumberText, IsAttrWord, IsPrintableTy, IsPrintableAttr, ArePrintableAttrs, ArePrintableEntries}
 use Rattle.round_trip.proofs.SpelledTypes.{form_of, same_text, mark_text, word_utf8, hash_utf8, whole_body, body_text, ty_printable}
 use Rattle.round_trip.proofs.SpelledBytes.{bytes_drop, token_bytes, string_bytes}

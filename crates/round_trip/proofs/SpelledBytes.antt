@@ -10,8 +10,8 @@ use Rattle.text_scan.specs.Hexadecimal.{is_hex_digit}
 use Rattle.text_scan.specs.Strings.{IsPart, plain, escape, code, Spells, IsString, string_value, escaped_byte, digit_value}
 use Rattle.text_scan.proofs.StringLaws.{string_value_is}
 use Rattle.mlir_lexer.specs.declared.token.TokenKind.{TokenKind}
-use Rattle.mlir_parse.specs.Place.{Place}
-use Rattle.mlir_parse.specs.Grammar.{IsSpelled}
+use Rattle.mlir_attributes.specs.Place.{Place}
+use Rattle.mlir_attributes.specs.Grammar.{IsSpelled}
 use Rattle.round_trip.specs.Printable.{AreBytes}
 use Rattle.round_trip.proofs.Utf8.{AreAscii}
 

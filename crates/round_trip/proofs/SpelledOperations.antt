@@ -14,10 +14,10 @@ use Rattle.mlir_print.specs.Text.{stands_bare}
 use Rattle.mlir_parse.specs.declared.syn.SynEntry.{SynEntry}
 use Rattle.mlir_parse.specs.declared.syn.SynResult.{SynResult}
 use Rattle.mlir_parse.specs.declared.syn.SynUse.{SynUse}
-use Rattle.mlir_parse.specs.Place.{Place}
-use Rattle.mlir_parse.specs.Grammar.{IsMark}
-use Rattle.mlir_parse.specs.TypeGrammar.{IsTy}
-use Rattle.mlir_parse.specs.Steps.{max_parts}
+use Rattle.mlir_attributes.specs.Place.{Place}
+use Rattle.mlir_attributes.specs.Grammar.{IsMark}
+use Rattle.mlir_attributes.specs.TypeGrammar.{IsTy}
+use Rattle.mlir_attributes.specs.Steps.{max_parts}
 use Rattle.mlir_parse.specs.Entries.{Placed, put_placed, syn_entry}
 use Rattle.mlir_parse.specs.Lists.{AreListed, InBrackets}
 use Rattle.mlir_parse.specs.OperationGrammar.{IsValueName, IsMaybeCount, IsResult, AreResults, IsMaybeIndex, IsOperand, AreOperands, IsMaybeLocation, IsOperationName, Fills, IsResultType, IsEntryAt, IsDictionary, AreAttributes, AreProperties, AreOperandTypes, IsOneResultType, AreResultTypes}

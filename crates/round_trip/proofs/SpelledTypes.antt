@@ -19,13 +19,13 @@ use Rattle.mlir_lexer.specs.declared.token.TokenKind.{TokenKind}
 use Rattle.mlir_lexer.specs.declared.token.TokenKind.TheVariants as k
 use Rattle.mlir_tree.specs.Tree.{Ty, int, index, func, word, Tys, no_tys, ty_then}
 use Rattle.mlir_print.specs.Text.{is_function, stands_bare}
-use Rattle.mlir_parse.specs.Place.{Place}
-use Rattle.mlir_parse.specs.KeptText.{Names, names, in_front, closers_after}
-use Rattle.mlir_parse.specs.Types.{max_open}
-use Rattle.mlir_parse.specs.Grammar.{IsSpelled, IsMark, IsBody}
-use Rattle.mlir_parse.specs.TypeGrammar.{IsKept, IsPlain, IsOne, IsTy, IsTys, IsMoreTys}
+use Rattle.mlir_attributes.specs.Place.{Place}
+use Rattle.mlir_attributes.specs.KeptText.{Names, names, in_front, closers_after}
+use Rattle.mlir_attributes.specs.Types.{max_open}
+use Rattle.mlir_attributes.specs.Grammar.{IsSpelled, IsMark, IsBody}
+use Rattle.mlir_attributes.specs.TypeGrammar.{IsKept, IsPlain, IsOne, IsTy, IsTys, IsMoreTys}
 use Rattle.std.proofs.lemmas.Option.{none-some}
-use Rattle.mlir_parse.proofs.Bodies.{opens_inside}
+use Rattle.mlir_attributes.proofs.Bodies.{opens_inside}
 use Rattle.round_trip.specs.Printable.{IsWholeBody, IsTypeWord, IsPrintableTy, ArePrintableTys}
 use Rattle.round_trip.proofs.Bodies.{names_whole, used_none}
 use Rattle.round_trip.proofs.BodyEnds.{Alone, ends_alone}

@@ -8,10 +8,10 @@ use Rattle.mlir_tree.specs.declared.sign.Sign.{Sign}
 use Rattle.mlir_tree.specs.declared.sign.Sign.TheVariants.{Signless, Signed, Unsigned}
 use Rattle.mlir_tree.specs.Tree.{Ty, int, index, func, word, Tys, no_tys, ty_then}
 use Rattle.mlir_print.specs.Text.{sign_text, is_function, stands_bare, results_by, ty_text, tys_text, more_tys_text}
-use Rattle.mlir_parse.specs.Place.{Place, moved}
-use Rattle.mlir_parse.specs.Types.{is_other_word, max_width}
-use Rattle.mlir_parse.specs.Grammar.{IsSpelled, IsMark}
-use Rattle.mlir_parse.specs.TypeGrammar.{HasBody, IsKept, IsLeaf, IsPlain, IsOne, IsTy, IsTys, IsMoreTys}
+use Rattle.mlir_attributes.specs.Place.{Place, moved}
+use Rattle.mlir_attributes.specs.Types.{is_other_word, max_width}
+use Rattle.mlir_attributes.specs.Grammar.{IsSpelled, IsMark}
+use Rattle.mlir_attributes.specs.TypeGrammar.{HasBody, IsKept, IsLeaf, IsPlain, IsOne, IsTy, IsTys, IsMoreTys}
 use Rattle.round_trip.specs.Printable.{IsTypeFront, IsTypeWord, IsWholeBody, IsPrintableTy, ArePrintableTys}
 use Rattle.round_trip.proofs.Places.{Is, Faces, Reads, faces, space, spelled, marked}
 use Rattle.round_trip.proofs.Tokens.{Stops, word_begins, bang_form, digit_word}

@@ -15,7 +15,7 @@ use Rattle.mlir_tree.specs.WellFormed.{AreDistinct, HasSizes}
 use Rattle.mlir_print.specs.Numbering.{has_results, with_results, arguments_of, arguments_in, result_number, argument_number}
 use Rattle.mlir_tree.proofs.Places.{IsAt, found_at, same_row}
 use Rattle.mlir_print.proofs.Counting.{arguments_in-more, with_results-more}
-use Rattle.mlir_parse.specs.Steps.{max_operations}
+use Rattle.mlir_attributes.specs.Steps.{max_operations}
 use Rattle.mlir_resolve.specs.Sight.{Definition}
 use Rattle.round_trip.proofs.Decimals.{decimal_wide}
 use Rattle.round_trip.proofs.Uses.{result_name, argument_name}

@@ -15,8 +15,8 @@ use Rattle.mlir_print.specs.ModuleText.{is_group, value_text}
 use Rattle.mlir_print.specs.Numbering.{has_results, result_number, argument_number}
 use Rattle.mlir_parse.specs.declared.syn.SynResult.{SynResult}
 use Rattle.mlir_parse.specs.declared.syn.SynUse.{SynUse}
-use Rattle.mlir_parse.specs.Place.{Place, moved, start}
-use Rattle.mlir_parse.specs.Steps.{max_slots, one_slot}
+use Rattle.mlir_attributes.specs.Place.{Place, moved, start}
+use Rattle.mlir_attributes.specs.Steps.{max_slots, one_slot}
 use Rattle.mlir_parse.specs.Operations.{index_of}
 use Rattle.mlir_parse.specs.OperationGrammar.{IsValueName, IsNoIndex, IsMaybeIndex, IsOperand}
 use Rattle.round_trip.proofs.Places.{Is, Faces, Reads, faces, spelled}

@@ -16,7 +16,7 @@ use Rattle.mlir_tree.specs.declared.number.Number.{Number}
 use Rattle.mlir_tree.specs.Tree.{Ty, int, index, func, word, Tys, no_tys, ty_then, Attr, unit, int_attr, num, str, sym as symbols, of_ty, array, dict, kept, Attrs, no_attrs, attr_then, Entries, no_entries, entry_then}
 use Rattle.mlir_tree.specs.Range.{IsInRange}
 use Rattle.mlir_print.specs.Text.{hex_digit, byte_text, string_text, is_bare, name_text, sign_text, stands_bare, results_by, ty_text, tys_text, more_tys_text, number_text, colon_type_text, typed_text, is_bit, bit_text, int_text, more_symbols_text, symbols_text, is_unit, entry_by, attr_text, attrs_text, more_attrs_text, entries_text, more_entries_text}
-use Rattle.mlir_parse.specs.Attributes.{signed_text}
+use Rattle.mlir_attributes.specs.Attributes.{signed_text}
 use Rattle.round_trip.specs.Printable.{AreBytes, IsTyped, IsNumberText, IsPrintableTy, ArePrintableTys, IsPrintableAttr, ArePrintableAttrs, ArePrintableEntries}
 use Rattle.round_trip.proofs.Types.{small_width}
 use Rattle.round_trip.proofs.Numbers.{in_range}

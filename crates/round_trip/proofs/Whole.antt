@@ -2,9 +2,9 @@
 use Rattle.std.proofs.Common.{ℕ, List, [], ◌∷◌, ◌++◌, refl, sym, subst, arith, append-nil}
 use Rattle.mlir_lexer.specs.declared.token.TokenKind.TheVariants as k
 use Rattle.mlir_print.specs.Text.{ty_text, attr_text}
-use Rattle.mlir_parse.specs.Place.{Place, moved, start_of}
-use Rattle.mlir_parse.specs.Types.{max_open}
-use Rattle.mlir_parse.specs.Grammar.{IsMark}
+use Rattle.mlir_attributes.specs.Place.{Place, moved, start_of}
+use Rattle.mlir_attributes.specs.Types.{max_open}
+use Rattle.mlir_attributes.specs.Grammar.{IsMark}
 use Rattle.round_trip.specs.Laws.{TypesReadBack, SpelledTypesArePrintable, AttributesReadBack, SpelledAttributesArePrintable, ModulesAreSpelled}
 use Rattle.round_trip.proofs.Places.{Is, Faces, Reads, faces, marked}
 use Rattle.round_trip.proofs.Ends.{text_ends}

@@ -7,7 +7,7 @@ use Rattle.mlir_tree.specs.declared.rows.Rows.{Rows}
 use Rattle.mlir_tree.specs.Tree.{Ty, int, index, func, word, Tys, no_tys, ty_then, tys, Attr, unit, int_attr, num, str, sym, of_ty, array, dict, kept, Attrs, no_attrs, attr_then, Entries, no_entries, entry_then, entries}
 use Rattle.mlir_print.specs.Text.{stands_bare}
 use Rattle.mlir_print.specs.ModuleText.{value_type}
-use Rattle.mlir_parse.specs.ModuleFile.{nesting}
+use Rattle.mlir_attributes.specs.Nesting.{nesting}
 use Rattle.round_trip.specs.PrintableRows.{room_of, brackets_of}
 
 -- ---- types

@@ -6,14 +6,14 @@ use Rattle.mlir_tree.specs.Tree.{Ty, Attr}
 use Rattle.mlir_print.specs.Text.{ty_text, attr_text}
 use Rattle.mlir_print.specs.ModuleText.{module_text}
 use Rattle.mlir_parse.specs.declared.syn.Syn.{Syn}
-use Rattle.mlir_parse.specs.Place.{Place, start_of}
-use Rattle.mlir_parse.specs.Types.{max_open}
-use Rattle.mlir_parse.specs.Steps.{max_operations}
-use Rattle.mlir_parse.specs.Grammar.{IsMark}
+use Rattle.mlir_attributes.specs.Place.{Place, start_of}
+use Rattle.mlir_attributes.specs.Types.{max_open}
+use Rattle.mlir_attributes.specs.Steps.{max_operations}
+use Rattle.mlir_attributes.specs.Grammar.{IsMark}
 use Rattle.mlir_parse.specs.SynTree.{Operation}
 use Rattle.mlir_parse.specs.OperationGrammar.{IsOperation}
-use Rattle.mlir_parse.specs.TypeGrammar.{IsTypeText}
-use Rattle.mlir_parse.specs.AttributeGrammar.{IsAttrText}
+use Rattle.mlir_attributes.specs.TypeGrammar.{IsTypeText}
+use Rattle.mlir_attributes.specs.AttributeGrammar.{IsAttrText}
 use Rattle.mlir_parse.specs.FileGrammar.{IsModuleFile}
 use Rattle.mlir_resolve.specs.Laid.{is_module}
 use Rattle.mlir_resolve.specs.Resolving.{resolved}

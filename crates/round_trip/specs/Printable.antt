@@ -8,11 +8,11 @@ use Rattle.mlir_lexer.specs.Body.{end_of_body}
 use Rattle.mlir_tree.specs.Tree.{Ty, int, index, func, word, Tys, no_tys, ty_then, Attr, unit, int_attr, num, str, sym, of_ty, array, dict, kept, Attrs, no_attrs, attr_then, Entries, no_entries, entry_then}
 use Rattle.mlir_tree.specs.Range.{IsInRange, AreRising, entry_names}
 use Rattle.mlir_print.specs.Text.{stands_bare}
-use Rattle.mlir_parse.specs.Aliases.{has_point}
-use Rattle.mlir_parse.specs.Types.{is_other_word, is_kept_word, max_width, max_open, opens_body}
-use Rattle.mlir_parse.specs.Numbers.{is_hex, is_integral}
-use Rattle.mlir_parse.specs.Attributes.{signed_text}
-use Rattle.mlir_parse.specs.TypeGrammar.{IsPlainWord}
+use Rattle.mlir_attributes.specs.Aliases.{has_point}
+use Rattle.mlir_attributes.specs.Types.{is_other_word, is_kept_word, max_width, max_open, opens_body}
+use Rattle.mlir_attributes.specs.Numbers.{is_hex, is_integral}
+use Rattle.mlir_attributes.specs.Attributes.{signed_text}
+use Rattle.mlir_attributes.specs.TypeGrammar.{IsPlainWord}
 
 abbrev pub AreBytes : List ℕ → Type 0
 AreBytes text = AllByRecursion (λ b. b < 256) text

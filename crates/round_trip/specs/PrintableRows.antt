@@ -8,8 +8,8 @@ use Rattle.mlir_tree.specs.Module.{enclosing}
 use Rattle.mlir_tree.specs.WellFormed.{IsWellFormed}
 use Rattle.mlir_print.specs.Text.{stands_bare}
 use Rattle.mlir_print.specs.ModuleText.{value_type, is_empty}
-use Rattle.mlir_parse.specs.Types.{max_open}
-use Rattle.mlir_parse.specs.Steps.{max_operations, max_slots}
+use Rattle.mlir_attributes.specs.Types.{max_open}
+use Rattle.mlir_attributes.specs.Steps.{max_operations, max_slots}
 use Rattle.mlir_resolve.specs.Resolving.{slots_of}
 use Rattle.round_trip.specs.Printable.{AreBytes, IsPrintableTy, ArePrintableTys, ArePrintableEntries}
 

@@ -9,7 +9,7 @@ ghost use Rattle.rewrite_model.specs.Holding.{Holds};
 ghost use Rattle.rewrite_model.specs.Matching.{MatchesBy, Matches};
 ghost use Rattle.rewrite_model.specs.Determined.{IsDetermined};
 ghost use Rattle.pdll_expand.specs.View.{demand_of};
-ghost use Rattle.mlir_resolve.specs.Indexing.{Indexes};
+ghost use Rattle.row_index.specs.Indexing.{Indexes};
 ghost use Rattle.row_matcher.specs.View.{thing_of, seen_of};
 ghost use Rattle.row_matcher.specs.Asked.{Asks};
 
@@ -24,7 +24,7 @@ use crate::matching::holding::holds;
 use crate::matching::learning::told;
 use crate::matching::naming::may_be_root;
 use crate::thing::{Seen, Thing};
-use mlir_resolve::index::{RowIndex, row_of};
+use row_index::index::{RowIndex, row_of};
 use mlir_tree::row::Row;
 use mlir_tree::value::Val;
 use native_set::native::Kind;

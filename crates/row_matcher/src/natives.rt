@@ -4,11 +4,11 @@ ghost use Rattle.std.specs.Prelude.{◌≡◌, ◌↔◌, ◌+◌, ◌∷◌, []
 ghost use Rattle.mlir_tree.specs.Edits.{val_eq};
 ghost use Rattle.mlir_tree.specs.Module as rowset;
 ghost use Rattle.rewrite_model.specs.Holding.{uses, is_result_of, result_uses, NativeHolds};
-ghost use Rattle.mlir_resolve.specs.Indexing.{Indexes};
+ghost use Rattle.row_index.specs.Indexing.{Indexes};
 ghost use Rattle.row_matcher.specs.View.{seen_of};
 
 use crate::thing::Seen;
-use mlir_resolve::index::{RowIndex, row_of};
+use row_index::index::{RowIndex, row_of};
 use mlir_tree::row::{Home, Row};
 use mlir_tree::value::Val;
 use native_set::arithmetic::{is_int, is_zero};

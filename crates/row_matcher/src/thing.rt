@@ -8,7 +8,6 @@ use mlir_tree::attr::Attr;
 use mlir_tree::ty::{Ty, TyList, copy_tys, equal_tys};
 use mlir_tree::value::{Val, ValList, equal_vals};
 use native_set::native::Kind;
-use sqlite_items::Items;
 use std::alloc::{AllocError, Global};
 
 /// A thing is an operation, a value, a list of values, an attribute, a type or a list of types.
@@ -71,7 +70,7 @@ impl<'a> Seen<'a> {
         match self {
             Seen::Op(id) => Ok(Thing::Op(id)),
             Seen::Value(v) => Ok(Thing::Value(v)),
-            Seen::Values(vs) => Ok(Thing::Values(Items::from_slice(alloc, vs)?)),
+            Seen::Values(vs) => Ok(Thing::Values(ValList::from_slice(alloc, vs)?)),
             Seen::Attr(a) => Ok(Thing::Attr(a.copy(alloc)?)),
             Seen::Ty(t) => Ok(Thing::Ty(t.copy(alloc)?)),
             Seen::Tys(ts) => Ok(Thing::Tys(copy_tys(alloc, ts)?)),

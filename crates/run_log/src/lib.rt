@@ -14,6 +14,3 @@ mod whole;
 
 pub use log::put_log;
 pub use whole::read_log;
-
-#[cfg(test)]
-mod tests;

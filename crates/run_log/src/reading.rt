@@ -12,11 +12,12 @@ use crate::cursor::Cursor;
 use mlir_tree::row::IdList;
 use mlir_tree::text::Text;
 use rewrite_model::run::StepRec;
+use shared_text::SharedText;
 use sqlite_items::Items;
 use std::alloc::{AllocError, Global};
 
 // Takes the bytes of a string up to its closing quote.
-fn inside<'a>(alloc: Global, cursor: &mut Cursor<'a>) -> Result<Text, AllocError>
+fn inside<'a>(alloc: Global, cursor: &mut Cursor<'a>) -> Result<Items<u8>, AllocError>
     ensures bytes { IfOk result (λ t. AreBytes t) }
     ensures sound { IfOk result (λ t. Takes cursor.old cursor.new (flat_map byte_text t)) }
     ensures complete { (bytes r : List ℕ) → AreBytes bytes → cursor.old ≡ good (flat_map byte_text bytes ++ (34 ∷ r)) → IfOk result (λ t. (t ≡ bytes) × (cursor.new ≡ good (34 ∷ r))) }
@@ -37,7 +38,8 @@ fn string<'a>(alloc: Global, cursor: &mut Cursor<'a>) -> Result<Text, AllocError
     cursor.literal(b"\"");
     let bytes = inside(alloc, cursor)?;
     cursor.literal(b"\"");
-    Ok(bytes)
+    let text = SharedText::new(alloc, bytes)?;
+    Ok(text)
 }
 
 // Takes the numbers behind the first one, each behind a comma.

@@ -5,11 +5,11 @@ ghost use Rattle.mlir_tree.specs.Edits as edits;
 ghost use Rattle.rewrite_model.specs.Things as spec;
 ghost use Rattle.rewrite_model.specs.Holding as holding;
 ghost use Rattle.pdll_expand.specs.View.{expr_of};
-ghost use Rattle.mlir_resolve.specs.Indexing.{Indexes};
+ghost use Rattle.row_index.specs.Indexing.{Indexes};
 ghost use Rattle.row_matcher.specs.View.{thing_of, seen_of};
 
 use crate::thing::{Seen, Thing};
-use mlir_resolve::index::{RowIndex, row_of};
+use row_index::index::{RowIndex, row_of};
 use mlir_tree::row::Row;
 use mlir_tree::ty::Ty;
 use mlir_tree::value::Val;

@@ -7,7 +7,7 @@ ghost use Rattle.rewrite_model.specs.Things as things;
 ghost use Rattle.rewrite_model.specs.Things.{each};
 ghost use Rattle.rewrite_model.specs.Holding.{thing_type, Holds};
 ghost use Rattle.pdll_expand.specs.View.{expr_of, parts_of, demand_of};
-ghost use Rattle.mlir_resolve.specs.Indexing.{Indexes};
+ghost use Rattle.row_index.specs.Indexing.{Indexes};
 ghost use Rattle.row_matcher.specs.Behind.{Leaves};
 ghost use Rattle.row_matcher.specs.View.{thing_of, seen_of};
 
@@ -16,7 +16,7 @@ use crate::matching::naming::is_named;
 use crate::matching::parts::has_parts;
 use crate::natives::{holds_of_one, holds_of_two};
 use crate::thing::{Seen, Thing};
-use mlir_resolve::index::RowIndex;
+use row_index::index::RowIndex;
 use mlir_tree::row::Row;
 use mlir_tree::ty::Ty;
 use mlir_tree::value::Val;

@@ -6,20 +6,21 @@ ghost use Rattle.rewrite_model.specs.Determined as determined;
 ghost use Rattle.rewrite_model.specs.Holding as holding;
 ghost use Rattle.rewrite_model.specs.Laws as laws;
 ghost use Rattle.pdll_expand.specs.View.{expr_of, named_expr_of, parts_of, demand_of};
-ghost use Rattle.mlir_resolve.specs.Indexing.{Indexes};
+ghost use Rattle.row_index.specs.Indexing.{Indexes};
 ghost use Rattle.row_matcher.specs.View.{thing_of, seen_of};
 ghost use Rattle.row_matcher.specs.Learning as spec;
 
 use crate::matching::denoting::type_of;
 use crate::matching::parts::attribute_of;
 use crate::thing::{Seen, Thing};
-use mlir_resolve::index::{RowIndex, row_of};
+use row_index::index::{RowIndex, row_of};
 use mlir_tree::row::Row;
 use mlir_tree::ty::{Ty, TyList};
 use mlir_tree::value::Val;
 use native_set::native::Kind;
 use pdll_expand::demand::{Demand, NamedExpr, Parts};
 use pdll_expand::expr::Expr;
+use shared_list::Shared;
 use sqlite_items::Items;
 use std::alloc::{AllocError, Global};
 
@@ -134,7 +135,8 @@ fn types_of(
             None => return Ok(None),
         }
     }
-    Ok(Some(types))
+    let all = Shared::new(alloc, types)?;
+    Ok(Some(all))
 }
 
 /// What a thing has for a type.

@@ -7,13 +7,13 @@ ghost use Rattle.mlir_tree.specs.Edits as edits;
 ghost use Rattle.rewrite_model.specs.Things.{concatenated, values_in, types_in, values_denoted, types_denoted};
 ghost use Rattle.rewrite_model.specs.Holding.{HasEntry, HasParts};
 ghost use Rattle.pdll_expand.specs.View.{expr_of, named_expr_of, parts_of};
-ghost use Rattle.mlir_resolve.specs.Indexing.{Indexes};
+ghost use Rattle.row_index.specs.Indexing.{Indexes};
 ghost use Rattle.row_matcher.specs.View.{thing_of, seen_of};
 ghost use Rattle.row_matcher.specs.Behind.{Leaves};
 
 use crate::matching::denoting::{denoted, is};
 use crate::thing::{Seen, Thing};
-use mlir_resolve::index::RowIndex;
+use row_index::index::RowIndex;
 use mlir_tree::attr::Attr;
 use mlir_tree::row::Row;
 use mlir_tree::text::Text;

@@ -1,7 +1,7 @@
 use Rattle.std.proofs.Common.{map}
 use Rattle.mlir_tree.specs.declared.rows.Rows.{Rows}
 use Rattle.mlir_tree.specs.WellFormed.{IsWellFormed}
-use Rattle.mlir_resolve.specs.Indexing.{Indexes}
+use Rattle.row_index.specs.Indexing.{Indexes}
 use Rattle.rewrite_model.specs.Running.{Course, Runs, Reaches}
 use Rattle.pdll_patterns.specs.View.{pattern_of}
 use Rattle.greedy_driver.specs.Course.{behind}

@@ -1,7 +1,7 @@
 use Rattle.std.proofs.Common.{rules, arith}
 use Rattle.std.proofs.lemmas.Grind.{common_steps}
 use Rattle.mlir_parse.specs.ModuleFile.{file_operations}
-use Rattle.mlir_parse.proofs.Steps.{one_more}
+use Rattle.mlir_attributes.proofs.Steps.{one_more}
 use Rattle.mlir_parse.proofs.file.operations.Goals as goal
 
 pub loop-turn-preserved : goal.loop-turn-preserved

@@ -1,6 +1,6 @@
 use Rattle.mlir_parse.specs.ModuleFile.{module_file}
 use Rattle.mlir_parse.specs.FileGrammar.{IsModuleFile}
-use Rattle.mlir_parse.proofs.Whole.{only_by}
+use Rattle.mlir_attributes.proofs.Whole.{only_by}
 use Rattle.mlir_parse.proofs.FileSound.{file_found}
 use Rattle.mlir_parse.proofs.FilesComplete.{file_complete}
 use Rattle.mlir_parse.proofs.FaultFiles.{file_fault, not_spelled}

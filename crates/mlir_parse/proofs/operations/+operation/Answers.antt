@@ -2,9 +2,9 @@ use Rattle.std.proofs.Common.{rules, arith}
 use Rattle.std.proofs.lemmas.Grind.{common_steps}
 use Rattle.std.specs.Prelude.{◌-◌}
 use Rattle.mlir_lexer.specs.declared.token.TokenKind.TheVariants.{RightBrace}
-use Rattle.mlir_parse.specs.Steps.{counted, many}
+use Rattle.mlir_attributes.specs.Steps.{counted, many}
 use Rattle.mlir_parse.specs.Operations.{inner_operation, region, two_deeper}
-use Rattle.mlir_parse.proofs.Steps.{one_more, no_more}
+use Rattle.mlir_attributes.proofs.Steps.{one_more, no_more}
 use Rattle.mlir_parse.proofs.OperationSteps.{back_fails}
 use Rattle.mlir_parse.proofs.operations.+operation.Goals as goal
 

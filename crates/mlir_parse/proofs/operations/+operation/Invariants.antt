@@ -1,6 +1,6 @@
 use Rattle.std.proofs.Common.{◌≡◌, ◌+◌, ◌-◌, ◌*◌}
 use Rattle.mlir_lexer.specs.declared.token.TokenKind.TheVariants.{RightBrace}
-use Rattle.mlir_parse.specs.Steps.{counted, many, all_up_to}
+use Rattle.mlir_attributes.specs.Steps.{counted, many, all_up_to}
 use Rattle.mlir_parse.specs.Operations.{inner_operation, region, regions_inside, two_deeper}
 use Rattle.mlir_parse.proofs.operations.+operation.Given as goal
 

@@ -1,8 +1,8 @@
 use Rattle.std.proofs.Common.{rules, arith}
 use Rattle.std.proofs.lemmas.Grind.{common_steps}
-use Rattle.mlir_parse.specs.Steps.{counted}
+use Rattle.mlir_attributes.specs.Steps.{counted}
 use Rattle.mlir_parse.specs.Operations.{argument}
-use Rattle.mlir_parse.proofs.Steps.{one_more, no_more}
+use Rattle.mlir_attributes.proofs.Steps.{one_more, no_more}
 use Rattle.mlir_parse.proofs.operations.argument_items.Goals as goal
 
 pub returns-in_err-argument : goal.returns-in_err-argument

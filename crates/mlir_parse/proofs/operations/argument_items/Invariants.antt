@@ -1,5 +1,5 @@
 use Rattle.std.proofs.Common.{◌≡◌, ◌-◌}
-use Rattle.mlir_parse.specs.Steps.{counted, counted_items}
+use Rattle.mlir_attributes.specs.Steps.{counted, counted_items}
 use Rattle.mlir_parse.specs.Operations.{argument}
 use Rattle.mlir_parse.proofs.operations.argument_items.Given as goal
 

@@ -1,9 +1,9 @@
 use Rattle.std.proofs.Common.{rules, arith}
 use Rattle.std.proofs.lemmas.Grind.{common_steps}
 use Rattle.mlir_lexer.specs.declared.token.TokenKind.TheVariants.{Comma}
-use Rattle.mlir_parse.specs.Input.{separated}
+use Rattle.mlir_attributes.specs.Input.{separated}
 use Rattle.mlir_parse.specs.Operations.{a_result}
-use Rattle.mlir_parse.proofs.Steps.{one_more, no_more}
+use Rattle.mlir_attributes.proofs.Steps.{one_more, no_more}
 use Rattle.mlir_parse.proofs.operations.result_items.Goals as goal
 
 pub returns-in_err-a_result : goal.returns-in_err-a_result

@@ -1,6 +1,6 @@
 use Rattle.std.proofs.Common.{◌≡◌, ◌-◌}
 use Rattle.mlir_lexer.specs.declared.token.TokenKind.TheVariants.{Comma}
-use Rattle.mlir_parse.specs.Input.{items, separated}
+use Rattle.mlir_attributes.specs.Input.{items, separated}
 use Rattle.mlir_parse.specs.Operations.{a_result}
 use Rattle.mlir_parse.proofs.operations.result_items.Given as goal
 

@@ -1,9 +1,9 @@
 use Rattle.std.proofs.Common.{rules, arith}
 use Rattle.std.proofs.lemmas.Grind.{common_steps}
-use Rattle.mlir_parse.specs.Steps.{counted}
-use Rattle.mlir_parse.specs.Types.{ty}
+use Rattle.mlir_attributes.specs.Steps.{counted}
+use Rattle.mlir_attributes.specs.Types.{ty}
 use Rattle.mlir_parse.specs.Operations.{result_type}
-use Rattle.mlir_parse.proofs.Steps.{one_more, no_more}
+use Rattle.mlir_attributes.proofs.Steps.{one_more, no_more}
 use Rattle.mlir_parse.proofs.operations.result_type_items.Goals as goal
 
 pub returns-in_err-result_type : goal.returns-in_err-result_type

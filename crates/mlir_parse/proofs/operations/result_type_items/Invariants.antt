@@ -1,6 +1,6 @@
 use Rattle.std.proofs.Common.{◌≡◌, ◌-◌}
-use Rattle.mlir_parse.specs.Steps.{counted, counted_items}
-use Rattle.mlir_parse.specs.Types.{ty}
+use Rattle.mlir_attributes.specs.Steps.{counted, counted_items}
+use Rattle.mlir_attributes.specs.Types.{ty}
 use Rattle.mlir_parse.specs.Operations.{result_type}
 use Rattle.mlir_parse.proofs.operations.result_type_items.Given as goal
 

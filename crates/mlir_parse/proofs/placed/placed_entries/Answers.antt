@@ -1,8 +1,8 @@
 use Rattle.std.proofs.Common.{rules, arith}
 use Rattle.std.proofs.lemmas.Grind.{common_steps}
-use Rattle.mlir_parse.specs.Attributes.{attr}
+use Rattle.mlir_attributes.specs.Attributes.{attr}
 use Rattle.mlir_parse.specs.Entries.{placed_entries, all_placed}
-use Rattle.mlir_parse.proofs.Steps.{one_more}
+use Rattle.mlir_attributes.proofs.Steps.{one_more}
 use Rattle.mlir_parse.proofs.placed.placed_entries.Goals as goal
 
 pub loop-turn-preserved : goal.loop-turn-preserved

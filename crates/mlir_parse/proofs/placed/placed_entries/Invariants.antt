@@ -1,5 +1,5 @@
 use Rattle.std.proofs.Common.{◌≡◌, ◌-◌}
-use Rattle.mlir_parse.specs.Attributes.{attr}
+use Rattle.mlir_attributes.specs.Attributes.{attr}
 use Rattle.mlir_parse.specs.Entries.{placed_entries, all_placed_entries, all_placed}
 use Rattle.mlir_parse.proofs.placed.placed_entries.Given as goal
 

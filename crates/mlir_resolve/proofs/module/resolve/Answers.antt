@@ -1,5 +1,5 @@
 use Rattle.std.proofs.Common.{subst}
-use Rattle.mlir_parse.specs.Input.{Gives}
+use Rattle.mlir_attributes.specs.Input.{Gives}
 use Rattle.mlir_resolve.proofs.Resolved.{walked_is_resolved}
 use Rattle.mlir_resolve.proofs.Slots.{slots_kept}
 use Rattle.mlir_resolve.proofs.WellFormedRows.{given_well_formed, lower_homes}

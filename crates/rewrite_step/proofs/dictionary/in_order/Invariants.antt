@@ -1,6 +1,6 @@
 use Rattle.std.proofs.Common.{◌≡◌, ◌++◌}
 use Rattle.std.specs.Prelude.{map}
-use Rattle.mlir_parse.specs.Dictionary.{entry_of}
+use Rattle.mlir_attributes.specs.Dictionary.{entry_of}
 use Rattle.rewrite_step.proofs.dictionary.in_order.Given as goal
 
 abbrev pub invariant-loop-name : goal.invariant-loop-name

@@ -1,6 +1,6 @@
 use Rattle.std.proofs.Common.{ℕ, List, sym, ap, ◌∙◌}
 use Rattle.mlir_tree.specs.Tree.{Attr}
-use Rattle.mlir_parse.specs.Dictionary.{named, put_entry}
+use Rattle.mlir_attributes.specs.Dictionary.{named, put_entry}
 use Rattle.rewrite_step.specs.Sorting.{put_all}
 use Rattle.rewrite_step.proofs.Sorting.{put_last}
 use Rattle.rewrite_step.proofs.dictionary.put_entries.Goals as goal

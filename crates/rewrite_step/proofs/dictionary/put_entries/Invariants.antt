@@ -1,5 +1,5 @@
 use Rattle.std.proofs.Common.{◌≡◌, length}
-use Rattle.mlir_parse.specs.Dictionary.{named}
+use Rattle.mlir_attributes.specs.Dictionary.{named}
 use Rattle.rewrite_step.specs.Sorting.{put_all}
 use Rattle.rewrite_step.proofs.dictionary.put_entries.Given as goal
 

@@ -1,6 +1,6 @@
 use Rattle.std.proofs.Common.{ap, ◌∙◌}
 use Rattle.std.specs.Prelude.{map}
-use Rattle.mlir_parse.specs.Dictionary.{entry_of, put_entry, named}
+use Rattle.mlir_attributes.specs.Dictionary.{entry_of, put_entry, named}
 use Rattle.rewrite_step.proofs.Sorting.{put_named}
 use Rattle.rewrite_step.proofs.dictionary.put_entry.Goals as goal
 

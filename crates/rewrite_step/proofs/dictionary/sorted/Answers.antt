@@ -1,6 +1,6 @@
 use Rattle.std.proofs.Common.{ap, ◌∙◌}
 use Rattle.std.specs.Prelude.{map}
-use Rattle.mlir_parse.specs.Dictionary.{entry_of}
+use Rattle.mlir_attributes.specs.Dictionary.{entry_of}
 use Rattle.rewrite_step.specs.Sorting.{put_all}
 use Rattle.rewrite_step.proofs.Sorting.{all_put}
 use Rattle.rewrite_step.proofs.dictionary.sorted.Goals as goal

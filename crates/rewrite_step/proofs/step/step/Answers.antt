@@ -1,6 +1,6 @@
 use Rattle.std.proofs.Common.{map}
 use Rattle.mlir_tree.specs.declared.rows.Rows.{Rows}
-use Rattle.mlir_resolve.specs.declared.index.RowIndex.{RowIndex}
+use Rattle.row_index.specs.declared.index.RowIndex.{RowIndex}
 use Rattle.row_matcher.specs.View.{thing_of}
 use Rattle.pdll_patterns.specs.View.{action_of}
 use Rattle.rewrite_step.specs.View.{progress_of}

@@ -1,10 +1,12 @@
-use Rattle.std.proofs.Common.{arith}
+use Rattle.std.proofs.Common.{List, Ok, map, subst, sym, arith}
+use Rattle.mlir_tree.specs.declared.value.Val.{Val}
 use Rattle.std.specs.Option.{option_and_then}
 use Rattle.rewrite_model.specs.declared.run.Break.TheVariants.{Gone}
 use Rattle.rewrite_model.specs.Things.{values_in}
-use Rattle.rewrite_model.specs.Making.{part}
+use Rattle.rewrite_model.specs.Making.{part, values_at}
 use Rattle.pdll_patterns.specs.View.{part_of}
 use Rattle.rewrite_step.specs.View.{start_of, progress_of}
+use Rattle.rewrite_step.specs.Ends.{Ends}
 use Rattle.rewrite_step.proofs.Concatenating.{none_found, one_found, one_missing, all_found}
 use Rattle.rewrite_step.proofs.progress.Progress.values_at.Goals as goal
 
@@ -18,4 +20,6 @@ pub returns-in-Err : goal.returns-in-Err
 returns-in-Err c = one_missing (λ x. option_and_then values_in (part (start_of c.args.start.now) (progress_of c.args.self.now) x)) part_of Gone c.args.xs.now c.loop-x.x-index _ c.loop-x.found c.add_values.new.found (λ vs. vs) c.in-Err.e (omega arith) c.loop-x.invariant c.in-Err.ensures
 
 pub returns : goal.returns
-returns c = all_found (λ x. option_and_then values_in (part (start_of c.args.start.now) (progress_of c.args.self.now) x)) part_of Gone c.args.xs.now c.loop-x.x-index c.loop-x.found (omega arith) c.loop-x.invariant
+returns c =
+    subst (λ (found : List Val). Ends (λ (all : List Val). all) (values_at (start_of c.args.start.now) (progress_of c.args.self.now) (map part_of c.args.xs.now)) (Ok found)) (sym c.in_ok-all.ensures)
+    (all_found (λ x. option_and_then values_in (part (start_of c.args.start.now) (progress_of c.args.self.now) x)) part_of Gone c.args.xs.now c.loop-x.x-index c.loop-x.found (omega arith) c.loop-x.invariant)

@@ -1,0 +1,17 @@
+pub mod Faults
+pub mod Place
+pub mod Input
+pub mod Aliases
+pub mod AliasCode
+pub mod KeptText
+pub mod Numbers
+pub mod Types
+pub mod Brackets
+pub mod Complete
+pub mod Dictionary
+pub mod Attributes
+pub mod Grammar
+pub mod TypeGrammar
+pub mod Steps
+pub mod AttributeGrammar
+pub mod Nesting

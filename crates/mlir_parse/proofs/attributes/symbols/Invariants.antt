@@ -1,9 +1,0 @@
-use Rattle.std.proofs.Common.{◌≡◌, ◌-◌, []}
-use Rattle.mlir_lexer.specs.declared.token.TokenKind.TheVariants.{ColonColon}
-use Rattle.mlir_parse.specs.Place.{left}
-use Rattle.mlir_parse.specs.Input.{separated}
-use Rattle.mlir_parse.specs.Attributes.{symbol}
-use Rattle.mlir_parse.proofs.attributes.symbols.Given as goal
-
-abbrev pub invariant-loop-turn : goal.invariant-loop-turn
-invariant-loop-turn l = separated ColonColon symbol (left l.fn.reader) [] l.fn.reader ≡ separated ColonColon symbol (l._turn-end - l._turn) l.found l.reader

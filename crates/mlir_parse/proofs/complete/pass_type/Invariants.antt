@@ -1,8 +1,0 @@
-use Rattle.std.proofs.Common.{◌≡◌, ◌-◌, []}
-use Rattle.mlir_parse.specs.declared.complete.Phase.TheVariants.{Item}
-use Rattle.mlir_parse.specs.Place.{left}
-use Rattle.mlir_parse.specs.Complete.{type_tokens, shape}
-use Rattle.mlir_parse.proofs.complete.pass_type.Given as goal
-
-abbrev pub invariant-loop-turn : goal.invariant-loop-turn
-invariant-loop-turn l = type_tokens (left l.fn.reader) (shape Item []) l.fn.reader ≡ type_tokens (l._turn-end - l._turn) l.shape l.reader

@@ -1,6 +1,0 @@
-use Rattle.std.proofs.Common.{◌∙◌}
-use Rattle.mlir_parse.proofs.Entries.{has_named}
-use Rattle.mlir_parse.proofs.dictionary.has_name.Goals as goal
-
-pub returns : goal.returns
-returns c = c.contains_key.ensures ∙ has_named c.args.name.now c.args.found.now.entries

@@ -1,8 +1,0 @@
-use Rattle.std.proofs.Common.{◌≡◌, ◌-◌, ◌≤◌, length}
-use Rattle.mlir_parse.specs.Steps.{balanced}
-use Rattle.mlir_parse.proofs.locations.balanced.Given as goal
-
-abbrev pub invariant-loop-turn : goal.invariant-loop-turn
-invariant-loop-turn l =
-    (balanced (length l.bytes - l.from) l.bytes l.room 1 l.from ≡ balanced (l._turn-end - l._turn) l.bytes l.room l.depth l.at)
-    × (l.at ≤ length l.bytes) × (1 ≤ l.depth)

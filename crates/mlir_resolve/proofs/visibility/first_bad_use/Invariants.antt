@@ -1,6 +1,0 @@
-use Rattle.std.proofs.Common.{◌≡◌, drop}
-use Rattle.mlir_resolve.specs.BadUses.{first_bad_use, bad_use}
-use Rattle.mlir_resolve.proofs.visibility.first_bad_use.Given as goal
-
-abbrev pub invariant-loop-at : goal.invariant-loop-at
-invariant-loop-at l = first_bad_use l.walk.rows.now (drop l.at l.walk.rows.now) ≡ bad_use l.walk.rows.now

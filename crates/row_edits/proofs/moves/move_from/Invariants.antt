@@ -1,9 +1,0 @@
-use Rattle.std.proofs.Common.{length}
-use Rattle.row_edits.proofs.Turned.{IsMoved}
-use Rattle.row_edits.proofs.moves.move_from.Given as goal
-
-abbrev pub invariant-loop-rows : goal.invariant-loop-rows
-invariant-loop-rows l = IsMoved l.fn.rows l.fn.moved l.rows l.moved l.at
-
-abbrev pub decreases-loop-rows : goal.decreases-loop-rows
-decreases-loop-rows l = length l.rows

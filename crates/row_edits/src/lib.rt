@@ -1,6 +1,0 @@
-//! The edits of a module's rows.
-#![tactic(auto)]
-
-pub mod laws;
-mod moves;
-pub mod removal;

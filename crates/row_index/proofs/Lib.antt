@@ -1,0 +1,4 @@
+pub mod Searching
+pub mod Indexing
+pub mod Walks
+pub mod BadUses

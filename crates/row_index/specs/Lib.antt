@@ -1,0 +1,3 @@
+pub mod BadUses
+pub mod Walking
+pub mod Indexing
