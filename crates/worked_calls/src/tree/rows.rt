@@ -2,7 +2,7 @@
 
 use crate::answers::Answers;
 use crate::reading::ty;
-use crate::reading::module;
+use crate::resolving::module;
 use mlir_tree::content::Content;
 use mlir_tree::row::{RegionList, Row};
 use mlir_tree::rows::{Rows, copy_rows, equal_rows};
