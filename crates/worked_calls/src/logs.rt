@@ -24,10 +24,10 @@ fn run_of(alloc: Global, text: &[u8]) -> Result<Run, AllocError> {
 }
 
 fn tell_step(answers: &mut Answers, step: &StepRec) -> Result<(), AllocError> {
-    answers.tell("name", step.name.as_slice())?;
-    answers.tell_value("pattern and root", &(step.pattern, step.root))?;
-    answers.tell_value("made", &step.made.as_slice())?;
-    answers.tell_value("removed", &step.removed.as_slice())
+    answers.tell("read_log(two steps), a name", step.name.as_slice())?;
+    answers.tell_value("read_log(two steps), pattern and root", &(step.pattern, step.root))?;
+    answers.tell_value("read_log(two steps), made", &step.made.as_slice())?;
+    answers.tell_value("read_log(two steps), removed", &step.removed.as_slice())
 }
 
 fn tell_read(answers: &mut Answers) -> Result<(), AllocError> {
@@ -36,7 +36,7 @@ fn tell_read(answers: &mut Answers) -> Result<(), AllocError> {
     for step in run.taken.as_slice() {
         tell_step(answers, step)?;
     }
-    answers.tell_value("ending", &run.ending)
+    answers.tell_value("read_log(two steps), ending", &run.ending)
 }
 
 fn tell_put(answers: &mut Answers) -> Result<(), AllocError> {
