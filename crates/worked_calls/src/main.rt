@@ -1,0 +1,70 @@
+//! Calls of the libraries, each with what it answers.
+#![tactic(auto)]
+
+mod answers;
+mod indexing;
+mod lists;
+mod logs;
+mod natives;
+mod outside;
+mod printing;
+mod reading;
+mod recent;
+mod resolving;
+mod runs;
+mod sizes;
+mod spelling;
+mod syntax;
+mod texts;
+mod tree;
+
+use crate::answers::Answers;
+use rw_outside::{StreamSink, put_all};
+use std::alloc::AllocError;
+use std::process::ExitCode;
+
+fn tell_data(answers: &mut Answers) -> Result<(), AllocError> {
+    outside::tell(answers)?;
+    lists::tell(answers)?;
+    texts::tell(answers)?;
+    tree::tell(answers)?;
+    recent::tell(answers)
+}
+
+fn tell_modules(answers: &mut Answers) -> Result<(), AllocError> {
+    printing::tell(answers)?;
+    reading::tell(answers)?;
+    resolving::tell(answers)?;
+    indexing::tell(answers)
+}
+
+fn tell_patterns(answers: &mut Answers) -> Result<(), AllocError> {
+    natives::tell(answers)?;
+    spelling::tell(answers)?;
+    syntax::tell(answers)?;
+    sizes::tell(answers)
+}
+
+fn tell_runs(answers: &mut Answers) -> Result<(), AllocError> {
+    logs::tell(answers)?;
+    runs::tell(answers)
+}
+
+fn tell_all(answers: &mut Answers) -> Result<(), AllocError> {
+    tell_data(answers)?;
+    tell_modules(answers)?;
+    tell_patterns(answers)?;
+    tell_runs(answers)
+}
+
+fn main(rt: HostRuntime) -> ExitCode {
+    let mut answers = Answers::new(rt.alloc());
+    let told = tell_all(&mut answers).is_ok() && outside::tell_real(&mut answers, &rt).is_ok();
+    let mut out = StreamSink::new(rt.stdout());
+    let put = put_all(&mut out, &answers.text);
+    if told && put.is_ok() {
+        ExitCode::SUCCESS
+    } else {
+        ExitCode::FAILURE
+    }
+}

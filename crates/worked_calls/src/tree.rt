@@ -1,0 +1,16 @@
+//! Calls of `mlir_tree`.
+
+mod attributes;
+mod rows;
+mod types;
+mod values;
+
+use crate::answers::Answers;
+use std::alloc::AllocError;
+
+pub fn tell(answers: &mut Answers) -> Result<(), AllocError> {
+    types::tell(answers)?;
+    attributes::tell(answers)?;
+    values::tell(answers)?;
+    rows::tell(answers)
+}
