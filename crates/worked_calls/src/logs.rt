@@ -25,7 +25,10 @@ fn run_of(alloc: Global, text: &[u8]) -> Result<Run, AllocError> {
 
 fn tell_step(answers: &mut Answers, step: &StepRec) -> Result<(), AllocError> {
     answers.tell("read_log(two steps), a name", step.name.as_slice())?;
-    answers.tell_value("read_log(two steps), pattern and root", &(step.pattern, step.root))?;
+    answers.tell_value(
+        "read_log(two steps), pattern and root",
+        &(step.pattern, step.root),
+    )?;
     answers.tell_value("read_log(two steps), made", &step.made.as_slice())?;
     answers.tell_value("read_log(two steps), removed", &step.removed.as_slice())
 }
@@ -49,7 +52,10 @@ fn tell_put(answers: &mut Answers) -> Result<(), AllocError> {
 fn tell_put_in_part(answers: &mut Answers) -> Result<(), AllocError> {
     let run = run_of(answers.alloc, STEPS)?;
     let mut sink = MemSink::new(answers.alloc, 12)?;
-    answers.tell_value("put_log(two steps) into MemSink of 12", &put_log(&run, &mut sink))?;
+    answers.tell_value(
+        "put_log(two steps) into MemSink of 12",
+        &put_log(&run, &mut sink),
+    )?;
     answers.tell("MemSink::bytes()", sink.bytes())
 }
 
@@ -60,7 +66,10 @@ fn tell_ending(answers: &mut Answers, line: &str) -> Result<(), AllocError> {
     answers.tell_value(call.as_str(), &run.ending)?;
     let mut sink = MemSink::new(answers.alloc, 1000)?;
     answers.tell_value("put_log(it)", &put_log(&run, &mut sink))?;
-    answers.tell_value("MemSink::bytes() are the log", &(sink.bytes() == text.as_bytes()))
+    answers.tell_value(
+        "MemSink::bytes() are the log",
+        &(sink.bytes() == text.as_bytes()),
+    )
 }
 
 fn tell_bounds(answers: &mut Answers) -> Result<(), AllocError> {
@@ -74,8 +83,14 @@ fn tell_breaks(answers: &mut Answers) -> Result<(), AllocError> {
     tell_ending(answers, "end broken steps 0 pattern 0 root 3 count")?;
     tell_ending(answers, "end broken steps 0 pattern 0 root 3 types")?;
     tell_ending(answers, "end broken steps 0 pattern 0 root 3 top")?;
-    tell_ending(answers, "end broken steps 0 pattern 0 root 3 native-refused")?;
-    tell_ending(answers, "end broken steps 0 pattern 0 root 3 bad-use row 12 place 0")
+    tell_ending(
+        answers,
+        "end broken steps 0 pattern 0 root 3 native-refused",
+    )?;
+    tell_ending(
+        answers,
+        "end broken steps 0 pattern 0 root 3 bad-use row 12 place 0",
+    )
 }
 
 fn tell_bad(answers: &mut Answers, call: &str, text: &[u8]) -> Result<(), AllocError> {

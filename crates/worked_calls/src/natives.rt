@@ -71,10 +71,30 @@ fn tell_constraint(
 }
 
 fn tell_constraints(answers: &mut Answers) -> Result<(), AllocError> {
-    tell_constraint(answers, "constraint(HasOneUse, [Value])", b"HasOneUse", &[Kind::Value])?;
-    tell_constraint(answers, "constraint(HasOneUse, [Op])", b"HasOneUse", &[Kind::Op])?;
-    tell_constraint(answers, "constraint(SameBlock, [Op, Op])", b"SameBlock", &[Kind::Op, Kind::Op])?;
-    tell_constraint(answers, "constraint(SameBlock, [Op])", b"SameBlock", &[Kind::Op])
+    tell_constraint(
+        answers,
+        "constraint(HasOneUse, [Value])",
+        b"HasOneUse",
+        &[Kind::Value],
+    )?;
+    tell_constraint(
+        answers,
+        "constraint(HasOneUse, [Op])",
+        b"HasOneUse",
+        &[Kind::Op],
+    )?;
+    tell_constraint(
+        answers,
+        "constraint(SameBlock, [Op, Op])",
+        b"SameBlock",
+        &[Kind::Op, Kind::Op],
+    )?;
+    tell_constraint(
+        answers,
+        "constraint(SameBlock, [Op])",
+        b"SameBlock",
+        &[Kind::Op],
+    )
 }
 
 fn tell_rewrites(answers: &mut Answers) -> Result<(), AllocError> {

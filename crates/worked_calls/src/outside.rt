@@ -58,7 +58,12 @@ fn tell_put<S: Sink>(
 fn tell_memory_sink(answers: &mut Answers) -> Result<(), AllocError> {
     let mut sink = MemSink::new(answers.alloc, 3)?;
     tell_put(answers, &mut sink, "put_all(MemSink of 3, ab)", b"ab")?;
-    tell_put(answers, &mut sink, "put_all(MemSink of 3 with ab, cd)", b"cd")?;
+    tell_put(
+        answers,
+        &mut sink,
+        "put_all(MemSink of 3 with ab, cd)",
+        b"cd",
+    )?;
     answers.tell("MemSink::bytes()", sink.bytes())
 }
 
@@ -104,7 +109,12 @@ fn tell_stream<R: Files>(answers: &mut Answers, rt: &R) -> Result<(), AllocError
         return answers.tell("fs::create(made)", b"no");
     };
     let mut sink = StreamSink::new(made);
-    tell_put(answers, &mut sink, "put_all(StreamSink of made, written)", b"written")
+    tell_put(
+        answers,
+        &mut sink,
+        "put_all(StreamSink of made, written)",
+        b"written",
+    )
 }
 
 fn tell_files<H: Host>(answers: &mut Answers, host: &mut H) -> Result<(), AllocError> {
@@ -116,10 +126,7 @@ fn tell_files<H: Host>(answers: &mut Answers, host: &mut H) -> Result<(), AllocE
 }
 
 /// Tells of real files and of a real stream.
-pub fn tell_real<R: Files + Clone + Drop>(
-    answers: &mut Answers,
-    rt: &R,
-) -> Result<(), AllocError> {
+pub fn tell_real<R: Files + Clone + Drop>(answers: &mut Answers, rt: &R) -> Result<(), AllocError> {
     tell_stream(answers, rt)?;
     let Ok(rt) = rt.clone() else {
         return Err(AllocError);

@@ -46,5 +46,9 @@ pub fn tell(answers: &mut Answers) -> Result<(), AllocError> {
     let rows = module(answers.alloc)?;
     answers.tell_value("resolve(the module), rows", &rows.rows.len())?;
     answers.tell_value("resolve(the module), next number", &rows.next)?;
-    tell_refused(answers, "resolve(t.a uses %0)", b"\"t.a\"(%0) : (i32) -> ()")
+    tell_refused(
+        answers,
+        "resolve(t.a uses %0)",
+        b"\"t.a\"(%0) : (i32) -> ()",
+    )
 }

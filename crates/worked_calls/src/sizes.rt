@@ -107,19 +107,44 @@ fn tell_limit(
 
 fn tell_statements(answers: &mut Answers) -> Result<(), AllocError> {
     tell_limit(answers, "statements", &STATEMENTS, 4096)?;
-    tell_limit(answers, "statements for a parameter, and one", &BY_PARAMETER, 4095)?;
+    tell_limit(
+        answers,
+        "statements for a parameter, and one",
+        &BY_PARAMETER,
+        4095,
+    )?;
     tell_limit(answers, "statements for each of two calls", &BY_CALLS, 2047)
 }
 
 fn tell_expressions(answers: &mut Answers) -> Result<(), AllocError> {
     tell_limit(answers, "operations, and one", &OPERATIONS, 255)?;
-    tell_limit(answers, "arguments and one, and their call", &EXPRESSIONS, 65533)?;
-    tell_limit(answers, "arguments of four expressions, and two", &LEFT_OUT, 16383)
+    tell_limit(
+        answers,
+        "arguments and one, and their call",
+        &EXPRESSIONS,
+        65533,
+    )?;
+    tell_limit(
+        answers,
+        "arguments of four expressions, and two",
+        &LEFT_OUT,
+        16383,
+    )
 }
 
 fn tell_doubled(answers: &mut Answers) -> Result<(), AllocError> {
-    tell_limit(answers, "constraints that call the one before twice", &DOUBLED, 11)?;
-    tell_times(answers, "constraints that call the one before twice", &DOUBLED, 100)
+    tell_limit(
+        answers,
+        "constraints that call the one before twice",
+        &DOUBLED,
+        11,
+    )?;
+    tell_times(
+        answers,
+        "constraints that call the one before twice",
+        &DOUBLED,
+        100,
+    )
 }
 
 // Patterns of 60,012 expressions, of which 1,000,000 are the most of a file.

@@ -22,7 +22,11 @@ fn tell_one(answers: &mut Answers, first: &str, second: &str) -> Result<(), Allo
 
 pub fn tell(answers: &mut Answers) -> Result<(), AllocError> {
     tell_one(answers, "Pattern => e.65534;", "Pattern => e.65535;")?;
-    tell_one(answers, "Pattern => e.65535;", "Pattern => e.700000000000000000000000;")?;
+    tell_one(
+        answers,
+        "Pattern => e.65535;",
+        "Pattern => e.700000000000000000000000;",
+    )?;
     tell_one(answers, "Pattern => e.1;", "Pattern => e .1;")?;
     tell_one(answers, "Pattern => e.1;", "Pattern => e. 1;")
 }

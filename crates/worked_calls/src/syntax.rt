@@ -40,15 +40,23 @@ fn statements(decl: Option<&Decl>) -> &[Stmt] {
 }
 
 fn tell_statement(answers: &mut Answers, one: &Stmt, other: &Stmt) -> Result<(), AllocError> {
-    let copy = one.copy(answers.alloc)?;
-    answers.tell_value("Stmt::equal(the first statement, its copy)", &copy.equal(one))?;
-    answers.tell_value("Stmt::equal(the first statement, the second)", &copy.equal(other))
+    answers.tell_value("Stmt::equal(the first statement, itself)", &one.equal(one))?;
+    answers.tell_value(
+        "Stmt::equal(the first statement, the second)",
+        &one.equal(other),
+    )
 }
 
 fn tell_expression(answers: &mut Answers, one: &Expr, other: &Expr) -> Result<(), AllocError> {
     let copy = one.copy(answers.alloc)?;
-    answers.tell_value("Expr::equal(the first expression, its copy)", &copy.equal(one))?;
-    answers.tell_value("Expr::equal(the first expression, the second)", &copy.equal(other))
+    answers.tell_value(
+        "Expr::equal(the first expression, its copy)",
+        &copy.equal(one),
+    )?;
+    answers.tell_value(
+        "Expr::equal(the first expression, the second)",
+        &copy.equal(other),
+    )
 }
 
 fn tell_two(answers: &mut Answers, one: &Stmt, other: &Stmt) -> Result<(), AllocError> {
@@ -70,8 +78,14 @@ fn tell_parts(answers: &mut Answers, file: &PatFile) -> Result<(), AllocError> {
 
 fn tell_codes(answers: &mut Answers) -> Result<(), AllocError> {
     answers.tell("PatKind::code_text(TooLong)", PatKind::TooLong.code_text())?;
-    answers.tell("PatKind::code_text(BenefitRange)", PatKind::BenefitRange.code_text())?;
-    answers.tell("PatKind::code_text(WrongPart)", PatKind::WrongPart.code_text())
+    answers.tell(
+        "PatKind::code_text(BenefitRange)",
+        PatKind::BenefitRange.code_text(),
+    )?;
+    answers.tell(
+        "PatKind::code_text(WrongPart)",
+        PatKind::WrongPart.code_text(),
+    )
 }
 
 pub fn tell(answers: &mut Answers) -> Result<(), AllocError> {

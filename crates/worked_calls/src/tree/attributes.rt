@@ -65,5 +65,14 @@ fn tell_keys(answers: &mut Answers, texts: &[&str]) -> Result<(), AllocError> {
 pub fn tell(answers: &mut Answers) -> Result<(), AllocError> {
     tell_copies(answers)?;
     tell_orders(answers)?;
-    tell_keys(answers, &["@a::@b", "@a::@b", "[unit, unit]", "[unit, unit]", "[i32, unit]"])
+    tell_keys(
+        answers,
+        &[
+            "@a::@b",
+            "@a::@b",
+            "[unit, unit]",
+            "[unit, unit]",
+            "[i32, unit]",
+        ],
+    )
 }

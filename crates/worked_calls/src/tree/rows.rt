@@ -20,18 +20,30 @@ fn tell_copies(answers: &mut Answers) -> Result<(), AllocError> {
     let mut copy = rows.copy(alloc)?;
     answers.tell_value("Rows::equal(the module, its copy)", &copy.equal(&rows))?;
     copy.next = 5;
-    answers.tell_value("Rows::equal(the module, its copy with next 5)", &copy.equal(&rows))?;
+    answers.tell_value(
+        "Rows::equal(the module, its copy with next 5)",
+        &copy.equal(&rows),
+    )?;
     let other = given(alloc, &rows)?;
-    answers.tell_value("Rows::equal(the module, Content::give_rows of it)", &other.equal(&rows))
+    answers.tell_value(
+        "Rows::equal(the module, Content::give_rows of it)",
+        &other.equal(&rows),
+    )
 }
 
 fn tell_lists(answers: &mut Answers) -> Result<(), AllocError> {
     let rows = module(answers.alloc)?;
     let all = rows.rows.as_slice();
     let mut copy = copy_rows(answers.alloc, all)?;
-    answers.tell_value("equal_rows(the rows, copy_rows of them)", &equal_rows(all, copy.as_slice()))?;
+    answers.tell_value(
+        "equal_rows(the rows, copy_rows of them)",
+        &equal_rows(all, copy.as_slice()),
+    )?;
     let _ = copy.pop();
-    answers.tell_value("equal_rows(the rows, all but the last)", &equal_rows(all, copy.as_slice()))
+    answers.tell_value(
+        "equal_rows(the rows, all but the last)",
+        &equal_rows(all, copy.as_slice()),
+    )
 }
 
 // One region with an argument of type i32.
@@ -47,10 +59,16 @@ fn tell_row(answers: &mut Answers, row: &Row) -> Result<(), AllocError> {
     let mut copy = row.copy(answers.alloc)?;
     answers.tell_value("Row::equal(func.func, its copy)", &copy.equal(row))?;
     copy.props = Shared::empty();
-    answers.tell_value("Row::equal(func.func, it without properties)", &copy.equal(row))?;
+    answers.tell_value(
+        "Row::equal(func.func, it without properties)",
+        &copy.equal(row),
+    )?;
     let mut copy = row.copy(answers.alloc)?;
     copy.regions = one_argument(answers.alloc)?;
-    answers.tell_value("Row::equal(func.func, it with an argument)", &copy.equal(row))
+    answers.tell_value(
+        "Row::equal(func.func, it with an argument)",
+        &copy.equal(row),
+    )
 }
 
 fn tell_function(answers: &mut Answers) -> Result<(), AllocError> {

@@ -68,8 +68,16 @@ fn tell_held(answers: &mut Answers, text: &str, values: &[i128]) -> Result<(), A
 fn tell_ranges(answers: &mut Answers) -> Result<(), AllocError> {
     tell_held(answers, "i8", &[-129, -128, 127, 128])?;
     tell_held(answers, "ui8", &[-1, 0, 255, 256])?;
-    tell_held(answers, "index", &[-9223372036854775809, -9223372036854775808])?;
-    tell_held(answers, "index", &[9223372036854775807, 9223372036854775808])?;
+    tell_held(
+        answers,
+        "index",
+        &[-9223372036854775809, -9223372036854775808],
+    )?;
+    tell_held(
+        answers,
+        "index",
+        &[9223372036854775807, 9223372036854775808],
+    )?;
     tell_held(answers, "i0", &[-1, 0, 1])?;
     tell_held(answers, "i129", &[0])?;
     tell_held(answers, "f32", &[0])
