@@ -4,15 +4,12 @@
 mod answers;
 mod indexing;
 mod lists;
-mod logs;
 mod natives;
 mod outside;
 mod printing;
 mod reading;
 mod recent;
 mod resolving;
-mod runs;
-mod sizes;
 mod spelling;
 mod syntax;
 mod texts;
@@ -41,20 +38,13 @@ fn tell_modules(answers: &mut Answers) -> Result<(), AllocError> {
 fn tell_patterns(answers: &mut Answers) -> Result<(), AllocError> {
     natives::tell(answers)?;
     spelling::tell(answers)?;
-    syntax::tell(answers)?;
-    sizes::tell(answers)
-}
-
-fn tell_runs(answers: &mut Answers) -> Result<(), AllocError> {
-    logs::tell(answers)?;
-    runs::tell(answers)
+    syntax::tell(answers)
 }
 
 fn tell_all(answers: &mut Answers) -> Result<(), AllocError> {
     tell_data(answers)?;
     tell_modules(answers)?;
-    tell_patterns(answers)?;
-    tell_runs(answers)
+    tell_patterns(answers)
 }
 
 fn main(rt: HostRuntime) -> ExitCode {
