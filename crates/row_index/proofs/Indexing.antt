@@ -1,11 +1,15 @@
 -- The rows by their places.
-use Rattle.std.proofs.Common.{◌≡◌, ◌<◌, ℕ, suc, ◌+◌, Bool, true, false, ◌||◌, cond, List, [], ◌∷◌, length, Option, Some, None, refl, sym, ap, subst, ◌∙◌, arith}
-use Rattle.std.specs.Prelude.{slice_get, option_and_then, ◌==◌, IfSome}
+use Rattle.std.proofs.Common.{◌≡◌, ◌≢◌, ◌<◌, ◌≤◌, ℕ, zero, suc, ◌+◌, Bool, true, false, ◌||◌, cond, List, [], ◌∷◌, length, take, drop, Option, Some, None, refl, sym, ap, subst, ◌∙◌, arith}
+use Rattle.std.specs.Prelude.{slice_get, get_or, option_and_then, ◌==◌, All, IfSome}
+use Rattle.std.proofs.Math.ListN.{set, replicate}
+use Rattle.std.proofs.Math.Seq.{drop-cons}
+use Rattle.std.proofs.lemmas.List.{drop_all}
+use Rattle.std.proofs.lemmas.List.Elements.{All-more}
 use Rattle.std.proofs.lemmas.Bool.Decides.{nat_tests}
 use Rattle.mlir_tree.specs.declared.row.Row.{Row}
 use Rattle.mlir_tree.specs.Module.{row_of, has_row}
 use Rattle.row_index.specs.declared.index.RowIndex.{RowIndex}
-use Rattle.row_index.specs.Indexing.{place_of, place_from, Indexes}
+use Rattle.row_index.specs.Indexing.{place_of, place_from, slot_of, Indexes}
 use Rattle.row_index.specs.Walking.{number_at}
 
 abbrev some_or : {X : Type 0} → X → Option X → X
@@ -73,3 +77,48 @@ place_within index rows id i = by (place_of index id) (i id) where
 
 pub no_place : (index : RowIndex) (rows : List Row) (id : ℕ) → Indexes index rows → place_of index id ≡ None → has_row rows id ≡ false
 no_place index rows id i e = no_number rows id 0 (sym (i id) ∙ e)
+
+-- ---- numbers below a length
+
+pub below_more : (rows : List Row) (i len more : ℕ) (d : Row) → i < length rows → len ≤ more → (get_or rows i d).id < more → All (λ r. r.id < len) (take i rows) → All (λ r. r.id < more) (take (i + 1) rows)
+below_more rows i len more d within grown here so =
+    All-more (λ r. r.id < more) rows i d within (λ k x q. let below = so k x q in omega (arith, below, grown)) here
+
+-- ---- a list of places
+
+no_slot : (len id : ℕ) → slot_of (replicate len 0) id ≡ None
+no_slot zero id = refl
+no_slot (suc len) zero = refl
+no_slot (suc len) (suc id) = no_slot len id
+
+pub slots_none : (rows : List Row) (len at id : ℕ) → length rows ≤ at → slot_of (replicate len 0) id ≡ place_from at (drop at rows) id
+slots_none rows len at id all = no_slot len id ∙ sym (ap (λ l. place_from at l id) (drop_all at rows all))
+
+slot_here : (slots : List ℕ) (i p : ℕ) → i < length slots → slot_of (set slots i (suc p)) i ≡ Some p
+slot_here [] i p few = absurd (omega (arith, few))
+slot_here (s ∷ slots) zero p few = refl
+slot_here (s ∷ slots) (suc i) p few = slot_here slots i p (omega (arith, few))
+
+slot_other : (slots : List ℕ) (i p id : ℕ) → i ≢ id → slot_of (set slots i p) id ≡ slot_of slots id
+slot_other [] i p id other = refl
+slot_other (s ∷ slots) zero p zero other = absurd (other refl)
+slot_other (s ∷ slots) zero p (suc id) other = refl
+slot_other (s ∷ slots) (suc i) p zero other = refl
+slot_other (s ∷ slots) (suc i) p (suc id) other = slot_other slots i p id (λ e. other (ap suc e))
+
+slot_set : (slots : List ℕ) (i p id : ℕ) → i < length slots → slot_of (set slots i (suc p)) id ≡ cond (i == id) (Some p) (slot_of slots id)
+slot_set slots i p id few = by (i == id) refl where
+  by : (b : Bool) → (i == id) ≡ b → slot_of (set slots i (suc p)) id ≡ cond b (Some p) (slot_of slots id)
+  by true t = let same : i ≡ id = grind (arith, nat_tests) in ap (λ n. slot_of (set slots i (suc p)) n) (sym same) ∙ slot_here slots i p few
+  by false t = slot_other slots i (suc p) id (λ e. let not : (i == id) ≡ true = grind (arith, nat_tests, e) in absurd (cc))
+
+pub slots_more : (rows : List Row) (slots : List ℕ) (at before : ℕ) (d : Row) → before + 1 ≡ at → before < length rows → (get_or rows before d).id < length slots
+    → ((id : ℕ) → slot_of slots id ≡ place_from at (drop at rows) id) → (id : ℕ) → slot_of (set slots (get_or rows before d).id at) id ≡ place_from before (drop before rows) id
+slots_more rows slots at before d next within few known id =
+    ap (λ n. slot_of (set slots (get_or rows before d).id n) id) (let e : at ≡ suc before = omega (arith, next) in e)
+    ∙ (slot_set slots (get_or rows before d).id before id few
+    ∙ (ap (λ o. cond ((get_or rows before d).id == id) (Some before) o) (known id ∙ ap (λ n. place_from n (drop n rows) id) (sym next))
+    ∙ sym (ap (λ l. place_from before l id) (drop-cons rows before d within) ∙ one_more)))
+  where
+    one_more : place_from before (get_or rows before d ∷ drop (suc before) rows) id ≡ cond ((get_or rows before d).id == id) (Some before) (place_from (before + 1) (drop (before + 1) rows) id)
+    one_more = let e : suc before ≡ before + 1 = omega arith in ap (λ n. cond ((get_or rows before d).id == id) (Some before) (place_from (before + 1) (drop n rows) id)) e
