@@ -1,12 +1,11 @@
 -- Numbers that are kept row by row.
-use Rattle.std.proofs.Common.{◌≡◌, ℕ, zero, suc, ◌+◌, ◌*◌, ◌^◌, ◌<◌, ◌≤◌, Bool, true, false, cond, List, [], ◌∷◌, length, take, filter, Option, Some, None, refl, sym, ap, subst, ◌∙◌, inl, inr, arith}
-use Rattle.std.specs.Prelude.{◌==◌, nat_eq, nat_lt, slice_get, unwrap_or, All, IfSome, IsTrue}
+use Rattle.std.proofs.Common.{◌≡◌, ℕ, zero, suc, ◌+◌, ◌*◌, ◌^◌, ◌<◌, ◌≤◌, Bool, true, false, cond, List, [], ◌∷◌, ◌++◌, length, length-append, take, filter, Option, Some, None, refl, sym, ap, subst, ◌∙◌, ◌⊎◌, inl, inr, arith}
+use Rattle.std.specs.Prelude.{nat_lt, slice_get, unwrap_or, All, IfSome, IsTrue}
 use Rattle.std.specs.Option.{option_map, option_map_or, option_and_then}
 use Rattle.std.specs.List.{IsDistinct}
-use Rattle.std.specs.HashMap.{get}
 use Rattle.std.proofs.lemmas.Bool.{eqb-true}
 use Rattle.std.proofs.lemmas.Bool.Decides.{nat_tests}
-use Rattle.std.proofs.lemmas.Option.{same_Some, slice_get_within, get_or_from_slice_get}
+use Rattle.std.proofs.lemmas.Option.{none-some, same_Some, slice_get_within, slice_get_cases, get_or_from_slice_get}
 use Rattle.std.proofs.lemmas.List.Elements.{All-head, All-tail, All-get_or}
 use Rattle.mlir_tree.specs.declared.row.Row.{Row}
 use Rattle.mlir_tree.specs.Tree.{Ty}
@@ -16,9 +15,10 @@ use Rattle.mlir_print.specs.declared.numbers.Numbers.{Numbers}
 use Rattle.mlir_print.specs.declared.numbers.RowNumbers.{RowNumbers}
 use Rattle.mlir_print.specs.Numbering.{has_results, with_results, arguments_of, arguments_in, place_of, rows_before, result_number, argument_number}
 use Rattle.mlir_print.specs.Starts.{starts}
-use Rattle.mlir_print.specs.NumberMaps.{result_in, argument_in, place_in, AreNumbersOf}
+use Rattle.mlir_print.specs.NumberMaps.{entry_in, result_in, argument_in, AreNumbersOf}
+use Rattle.row_index.specs.Indexing.{Indexes}
 use Rattle.mlir_tree.proofs.Places.{true_or_false, IsAt, nothing_at, apart_at}
-use Rattle.mlir_print.proofs.Lookups.{found_there, none_there}
+use Rattle.mlir_print.proofs.Lookups.{found_there, none_there, indexed_some}
 
 -- ---- how many there are
 
@@ -83,42 +83,37 @@ with_results-same (x ∷ xs) (suc n) r p has = by_first (has_results x) (with_re
     by_first true e = ap suc e
     by_first false e = e
 
-place_of-here : (rows : List Row) → AreDistinct rows → (n : ℕ) (r : Row) → IsAt rows n r → place_of (take (suc n) rows) r.id ≡ Some n
-unfolding IsDistinct
-place_of-here [] apart n r p = absurd (nothing_at n r p)
-place_of-here (x ∷ xs) apart zero r p =
-    let same : (x.id == r.id) ≡ true = let e = ap (λ (t : Row). t.id) (same_Some x r p) in grind (arith, nat_tests, e) in
-    λ i. cond (same i) (Some 0) None
-place_of-here (x ∷ xs) apart (suc n) r p =
-    (λ i. cond (apart_at x.id xs apart.0 n r p i) (Some 0) (option_map suc (place_of (take (suc n) xs) r.id))) ∙ ap (option_map suc) (place_of-here xs apart.1 n r p)
-
-place_of-other : (rows : List Row) (n : ℕ) (r : Row) (d : ℕ) → IsAt rows n r → (r.id == d) ≡ false → place_of (take (suc n) rows) d ≡ place_of (take n rows) d
-place_of-other [] n r d p other = absurd (nothing_at n r p)
-place_of-other (x ∷ xs) zero r d p other = λ i. cond ((ap (λ (t : Row). t.id == d) (same_Some x r p) ∙ other) i) (Some 0) None
-place_of-other (x ∷ xs) (suc n) r d p other = λ i. cond (x.id == d) (Some 0) (option_map suc (place_of-other xs n r d p other i))
-
 -- ---- what is kept of rows
 
-pub record IsKept (rows : List Row) (e : RowNumbers) : Type 0 where
-  pub result : e.result ≡ with_results (take e.place rows)
-  pub arguments : (r : Row) → slice_get rows e.place ≡ Some r → e.arguments.items ≡ starts (arguments_in (take e.place rows)) r.regions
+-- what is kept of the row at this place
+pub record IsKept (rows : List Row) (place : ℕ) (e : RowNumbers) : Type 0 where
+  pub result : e.result ≡ with_results (take place rows)
+  pub arguments : (r : Row) → slice_get rows place ≡ Some r → e.arguments.items ≡ starts (arguments_in (take place rows)) r.regions
 
 -- the first n rows are kept
-abbrev pub AreKept : List Row → ℕ → Numbers → Type 0
-AreKept rows n m = (d : ℕ) → (place_in m d ≡ place_of (take n rows) d) × IfSome (get nat_eq m.rows d) (IsKept rows)
+abbrev pub AreKept : List Row → ℕ → List RowNumbers → Type 0
+AreKept rows n kept = (length kept ≡ n) × ((place : ℕ) (e : RowNumbers) → slice_get kept place ≡ Some e → IsKept rows place e)
 
-pub keep_more : (rows : List Row) → AreDistinct rows → (n : ℕ) (r : Row) (m k : Numbers) (e : RowNumbers) → IsAt rows n r → AreKept rows n m
-    → ((d : ℕ) → get nat_eq k.rows d ≡ cond (nat_eq r.id d) (Some e) (get nat_eq m.rows d)) → e.place ≡ n → IsKept rows e → AreKept rows (suc n) k
-keep_more rows apart n r m k e at_r kept updates place is d = elim (true_or_false (r.id == d)) [
-  | inl here ↦
-      let found : get nat_eq k.rows d ≡ Some e = updates d ∙ (λ i. cond (here i) (Some e) (get nat_eq m.rows d)) in (
-        ap (option_map (λ x. x.place)) found ∙ (ap (λ x. Some x) place ∙ (sym (place_of-here rows apart n r at_r) ∙ ap (place_of (take (suc n) rows)) (eqb-true r.id d here))),
-        subst (λ o. IfSome o (IsKept rows)) (sym found) is,
-      )
-  | inr there ↦
-      let found : get nat_eq k.rows d ≡ get nat_eq m.rows d = updates d ∙ (λ i. cond (there i) (Some e) (get nat_eq m.rows d)) in
-      (ap (option_map (λ x. x.place)) found ∙ ((kept d).0 ∙ sym (place_of-other rows n r d at_r there)), subst (λ o. IfSome o (IsKept rows)) (sym found) (kept d).1)
+pub kept_nothing : (rows : List Row) → AreKept rows 0 []
+kept_nothing rows = (refl, λ place e p. absurd (none-some e p))
+
+last_or_before : (kept : List RowNumbers) (e x : RowNumbers) (i : ℕ) → slice_get (kept ++ (e ∷ [])) i ≡ Some x → (slice_get kept i ≡ Some x) ⊎ ((i ≡ length kept) × (e ≡ x))
+last_or_before [] e x zero p = inr (refl, same_Some e x p)
+last_or_before [] e x (suc i) p = absurd (none-some x p)
+last_or_before (y ∷ kept) e x zero p = inl p
+last_or_before (y ∷ kept) e x (suc i) p = elim (last_or_before kept e x i p) [
+  | inl q ↦ inl q
+  | inr q ↦ inr (ap suc q.0, q.1)
 ]
+
+pub keep_more : (rows : List Row) (n : ℕ) (kept : List RowNumbers) (e : RowNumbers) → AreKept rows n kept → IsKept rows n e → AreKept rows (suc n) (kept ++ (e ∷ []))
+keep_more rows n kept e are is = (
+    length-append kept (e ∷ []) ∙ (let s : length kept + 1 ≡ suc n = omega (arith, are.0) in s),
+    λ place x p. elim (last_or_before kept e x place p) [
+      | inl q ↦ are.1 place x q
+      | inr q ↦ subst (λ y. IsKept rows place y) q.1 (subst (λ k. IsKept rows k e) (sym (q.0 ∙ are.0)) is)
+    ],
+  )
 
 -- ---- the numbers are those of the rows
 
@@ -140,56 +135,71 @@ in_found P o r e p = subst (λ o. IfSome o P) (sym e) p
 in_none : (P : Row → Type 0) (o : Option Row) → o ≡ None → IfSome o P
 in_none P o e = subst (λ o. IfSome o P) (sym e) tt
 
-abbrev Kept : List Row → Numbers → ℕ → Option RowNumbers → Type 0
-Kept rows m d o = (get nat_eq m.rows d ≡ o) × (option_map (λ e. e.place) o ≡ place_of rows d) × IfSome o (IsKept rows)
+-- the entry of row d, which stands at this place
+abbrev Kept : List Row → Numbers → ℕ → ℕ → RowNumbers → Type 0
+Kept rows m d place e = (entry_in m d ≡ Some e) × (place_of rows d ≡ Some place) × IsKept rows place e
 
-kept_result : (rows : List Row) (m : Numbers) (d : ℕ) (o : Option RowNumbers) → Kept rows m d o → IfSome (row_of rows d) (λ r. result_in m d ≡ Some (result_number rows d))
+-- its entry, where the row is there
+abbrev Known : List Row → Numbers → ℕ → Type 0
+Known rows m d = (place_of rows d ≡ None) ⊎ ((place : ℕ) × (e : RowNumbers) × Kept rows m d place e)
+
+kept_result : (rows : List Row) (m : Numbers) (d : ℕ) → Known rows m d → IfSome (row_of rows d) (λ r. result_in m d ≡ Some (result_number rows d))
 unfolding result_number
-kept_result rows m d None k = in_none (λ r. result_in m d ≡ Some (with_results (rows_before rows d))) (row_of rows d) (none_there rows d (sym k.1))
-kept_result rows m d (Some e) k =
+kept_result rows m d (inl none) = in_none (λ r. result_in m d ≡ Some (with_results (rows_before rows d))) (row_of rows d) (none_there rows d none)
+kept_result rows m d (inr (place, e, k)) =
     in_each (row_of rows d)
-    (ap (option_map (λ x. x.result)) k.0 ∙ ap (λ n. Some n) (k.2.result ∙ ap (λ o. with_results (take (unwrap_or o 0) rows)) k.1))
+    (ap (option_map (λ x. x.result)) k.0 ∙ ap (λ n. Some n) (k.2.result ∙ ap (λ o. with_results (take (unwrap_or o 0) rows)) (sym k.1)))
 
-kept_argument : (rows : List Row) (m : Numbers) (d g k : ℕ) (o : Option RowNumbers) → Kept rows m d o
+kept_argument : (rows : List Row) (m : Numbers) (d g k : ℕ) → Known rows m d
     → IfSome (row_of rows d) (λ r. IsTrue (has_argument g k r) → argument_in m d g k ≡ Some (argument_number rows d g k))
 unfolding argument_number
-kept_argument rows m d g k None p =
+kept_argument rows m d g k (inl none) =
     in_none (λ r. IsTrue (has_argument g k r) → argument_in m d g k ≡ Some (arguments_in (rows_before rows d) + (option_map_or (λ r. arguments_of (take g r.regions)) (row_of rows d) 0 + k)))
-    (row_of rows d) (none_there rows d (sym p.1))
-kept_argument rows m d g k (Some e) p =
-    let f = found_there rows d e.place (sym p.1) in
+    (row_of rows d) (none_there rows d none)
+kept_argument rows m d g k (inr (place, e, p)) =
+    let f = found_there rows d place p.1 in
     in_found (λ r. IsTrue (has_argument g k r) → argument_in m d g k ≡ Some (arguments_in (rows_before rows d) + (option_map_or (λ r. arguments_of (take g r.regions)) (row_of rows d) 0 + k)))
     (row_of rows d) f.row f.is (λ has.
-    let sum : (arguments_in (take e.place rows) + arguments_of (take g f.row.regions)) + k ≡ arguments_in (take e.place rows) + (arguments_of (take g f.row.regions) + k) = omega arith in
+    let sum : (arguments_in (take place rows) + arguments_of (take g f.row.regions)) + k ≡ arguments_in (take place rows) + (arguments_of (take g f.row.regions) + k) = omega arith in
     ap (option_and_then (λ x. option_map (λ first. first + k) (slice_get x.arguments.items g))) p.0
     ∙ (ap (λ l. option_map (λ first. first + k) (slice_get l g)) (p.2.arguments f.row f.there)
-    ∙ (ap (option_map (λ first. first + k)) (starts_at (arguments_in (take e.place rows)) g k f.row.regions has)
+    ∙ (ap (option_map (λ first. first + k)) (starts_at (arguments_in (take place rows)) g k f.row.regions has)
     ∙ (ap (λ n. Some n) sum
-    ∙ (λ i. Some (arguments_in (take (unwrap_or (p.1 i) 0) rows) + (option_map_or (λ r. arguments_of (take g r.regions)) (sym f.is i) 0 + k)))))))
+    ∙ (λ i. Some (arguments_in (take (unwrap_or (sym p.1 i) 0) rows) + (option_map_or (λ r. arguments_of (take g r.regions)) (sym f.is i) 0 + k)))))))
 
-number_fits : (rows : List Row) → All HasSizes rows → length rows < 2 ^ 64 → (m : Numbers) (d g k : ℕ) (o : Option RowNumbers) → Kept rows m d o
+number_fits : (rows : List Row) → All HasSizes rows → length rows < 2 ^ 64 → (m : Numbers) (d g k : ℕ) → Known rows m d
     → IfSome (row_of rows d) (λ r. IsTrue (has_argument g k r) → argument_number rows d g k < 2 ^ 128)
 unfolding argument_number
-number_fits rows sizes few m d g k None p =
+number_fits rows sizes few m d g k (inl none) =
     in_none (λ r. IsTrue (has_argument g k r) → arguments_in (rows_before rows d) + (option_map_or (λ r. arguments_of (take g r.regions)) (row_of rows d) 0 + k) < 2 ^ 128)
-    (row_of rows d) (none_there rows d (sym p.1))
-number_fits rows sizes few m d g k (Some e) p =
-    let f = found_there rows d e.place (sym p.1) in
-    let within = slice_get_within rows e.place f.row f.there in
-    let size = sizes_at rows sizes e.place f.row f.there in
+    (row_of rows d) (none_there rows d none)
+number_fits rows sizes few m d g k (inr (place, e, p)) =
+    let f = found_there rows d place p.1 in
+    let within = slice_get_within rows place f.row f.there in
+    let size = sizes_at rows sizes place f.row f.there in
     in_found (λ r. IsTrue (has_argument g k r) → arguments_in (rows_before rows d) + (option_map_or (λ r. arguments_of (take g r.regions)) (row_of rows d) 0 + k) < 2 ^ 128)
     (row_of rows d) f.row f.is (λ has.
-    let is : arguments_in (take (unwrap_or (place_of rows d) 0) rows) + (option_map_or (λ r. arguments_of (take g r.regions)) (row_of rows d) 0 + k) ≡ arguments_in (take e.place rows) + (arguments_of (take g f.row.regions) + k)
-    = λ i. arguments_in (take (unwrap_or (sym p.1 i) 0) rows) + (option_map_or (λ r. arguments_of (take g r.regions)) (f.is i) 0 + k) in
-    omega (arith, is, within, few, few_taken e.place rows sizes, arguments_of-take g f.row.regions, few_of_row f.row size, few_there g k f.row.regions has size.arguments))
+    let is : arguments_in (take (unwrap_or (place_of rows d) 0) rows) + (option_map_or (λ r. arguments_of (take g r.regions)) (row_of rows d) 0 + k) ≡ arguments_in (take place rows) + (arguments_of (take g f.row.regions) + k)
+    = λ i. arguments_in (take (unwrap_or (p.1 i) 0) rows) + (option_map_or (λ r. arguments_of (take g r.regions)) (f.is i) 0 + k) in
+    omega (arith, is, within, few, few_taken place rows sizes, arguments_of-take g f.row.regions, few_of_row f.row size, few_there g k f.row.regions has size.arguments))
 
-pub numbers_are : (rows : List Row) → All HasSizes rows → length rows < 2 ^ 64 → (m : Numbers) → AreKept rows (length rows) m → AreNumbersOf rows m
-numbers_are rows sizes few m kept = record {
-  results = λ d. kept_result rows m d (get nat_eq m.rows d) (whole d);
-  arguments = λ d g k. kept_argument rows m d g k (get nat_eq m.rows d) (whole d);
-  places = λ d. (whole d).1;
-  fit = λ d g k. number_fits rows sizes few m d g k (get nat_eq m.rows d) (whole d);
+pub numbers_are : (rows : List Row) → All HasSizes rows → length rows < 2 ^ 64 → (m : Numbers) → Indexes m.index rows → AreKept rows (length rows) m.rows.items → AreNumbersOf rows m
+numbers_are rows sizes few m indexed kept = record {
+  results = λ d. kept_result rows m d (known d);
+  arguments = λ d g k. kept_argument rows m d g k (known d);
+  places = indexed;
+  fit = λ d g k. number_fits rows sizes few m d g k (known d);
 }
   where
-    whole : (d : ℕ) → Kept rows m d (get nat_eq m.rows d)
-    whole d = (refl, (kept d).0 ∙ ap (λ l. place_of l d) (take_all rows), (kept d).1)
+    at : (d place : ℕ) → place_of rows d ≡ Some place → place < length rows → Known rows m d
+    at d place p within = elim (slice_get_cases m.rows.items place).1 [
+      | inl c ↦ inr (place, c.0, (indexed_some rows m indexed d place p ∙ c.2, p, kept.1 place c.0 c.2))
+      | inr c ↦ absurd (omega (arith, c.0, within, kept.0))
+    ]
+
+    by : (d : ℕ) (o : Option ℕ) → place_of rows d ≡ o → Known rows m d
+    by d None p = inl p
+    by d (Some place) p = let f = found_there rows d place p in at d place p (slice_get_within rows place f.row f.there)
+
+    known : (d : ℕ) → Known rows m d
+    known d = by d (place_of rows d) refl

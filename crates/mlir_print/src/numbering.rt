@@ -9,8 +9,8 @@ use crate::numbers::{Numbers, RowNumbers};
 use mlir_tree::row::Row;
 use mlir_tree::rows::Rows;
 use mlir_tree::ty::TyList;
+use row_index::index::RowIndex;
 use std::alloc::{AllocError, Global};
-use std::collections::HashMap;
 use std::vec::Vec;
 
 // How many arguments the regions have.
@@ -46,25 +46,19 @@ pub fn number(alloc: Global, rows: &Rows) -> Result<Numbers, AllocError>
     requires { IsWellFormed rows.now }
     ensures { IfOk result (λ numbers. AreNumbersOf rows.now.rows numbers) }
 {
+    let index = RowIndex::new(alloc, rows)?;
     let rows = rows.rows.as_slice();
-    let mut found = HashMap::with_capacity(alloc, rows.len())?;
+    let mut found = Vec::with_capacity(alloc, rows.len())?;
     let mut result = 0;
     let mut argument = 0;
     for place in 0..rows.len() {
         let row = &rows[place];
         let arguments = starts(alloc, argument, row.regions.as_slice())?;
-        found.insert(
-            row.id,
-            RowNumbers {
-                place,
-                result,
-                arguments,
-            },
-        )?;
+        found.push(RowNumbers { result, arguments })?;
         if !row.results.is_empty() {
             result += 1;
         }
         argument += argument_count(row.regions.as_slice());
     }
-    Ok(Numbers { rows: found })
+    Ok(Numbers { index, rows: found })
 }

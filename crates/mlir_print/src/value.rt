@@ -16,8 +16,8 @@ use itoa::Buffer;
 use mlir_tree::row::Row;
 use mlir_tree::ty::Ty;
 use mlir_tree::value::Val;
+use row_index::index::row_of;
 use rw_outside::Sink;
-use sqlite_items::at;
 
 pub fn put_count<S: Sink>(sink: &mut S, ok: &mut bool, count: usize)
     ensures { Prints ok.old ok.new (S.state sink.old) (S.state sink.new) (decimal count) }
@@ -35,23 +35,12 @@ pub fn put_separator<S: Sink>(sink: &mut S, ok: &mut bool, place: usize)
     }
 }
 
-// The row of this number.
-fn row_of<'a>(rows: &'a [Row], numbers: &Numbers, id: u32) -> Option<&'a Row>
-    requires { AreNumbersOf rows.now numbers.now }
-    ensures { option_copied result ≡ tree.row_of rows.now id }
-{
-    match numbers.rows.get(&id) {
-        None => None,
-        Some(found) => at(rows, found.place),
-    }
-}
-
 // The number of the results of a row.
 pub fn result_number(rows: &[Row], numbers: &Numbers, id: u32) -> usize
     requires { AreNumbersOf rows.now numbers.now }
     ensures { result ≡ numbering.result_number rows.now id }
 {
-    match numbers.rows.get(&id) {
+    match numbers.entry(id) {
         None => 0,
         Some(found) => found.result,
     }
@@ -69,7 +58,7 @@ pub fn argument_number(
     requires there { IsTrue (tree.is_value rows.now (Arg id region place)) }
     ensures { result ≡ numbering.argument_number rows.now id region place }
 {
-    match numbers.rows.get(&id) {
+    match numbers.entry(id) {
         None => 0,
         Some(found) => found.arguments[region] + place as u128,
     }
@@ -80,7 +69,7 @@ fn is_group(rows: &[Row], numbers: &Numbers, id: u32) -> bool
     requires { AreNumbersOf rows.now numbers.now }
     ensures { result ≡ option_map_or spec.is_group (tree.row_of rows.now id) false }
 {
-    match row_of(rows, numbers, id) {
+    match row_of(rows, &numbers.index, id) {
         None => false,
         Some(row) => row.results.len() > 1,
     }
@@ -153,11 +142,11 @@ fn value_ty<'a>(rows: &'a [Row], numbers: &Numbers, value: Val) -> Option<&'a Ty
     ensures { option_copied result ≡ spec.value_type rows.now value }
 {
     match value {
-        Val::Res(id, place) => match row_of(rows, numbers, id) {
+        Val::Res(id, place) => match row_of(rows, &numbers.index, id) {
             None => None,
             Some(row) => row.results.get(usize::from(place)),
         },
-        Val::Arg(id, region, place) => match row_of(rows, numbers, id) {
+        Val::Arg(id, region, place) => match row_of(rows, &numbers.index, id) {
             None => None,
             Some(row) => argument_ty(row, usize::from(region), usize::from(place)),
         },

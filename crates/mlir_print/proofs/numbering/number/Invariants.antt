@@ -7,4 +7,4 @@ use Rattle.mlir_print.proofs.numbering.number.Given as goal
 abbrev pub invariant-loop-place : goal.invariant-loop-place
 invariant-loop-place l =
     (l.result ≡ with_results (take l.place l.rows)) × (l.result ≤ l.place) × (l.argument ≡ arguments_in (take l.place l.rows))
-    × AreKept l.rows l.place (record { rows = l.found })
+    × AreKept l.rows l.place l.found.items
