@@ -1,3 +1,4 @@
 pub mod Put
 pub mod Putting
 pub mod FileList
+pub mod Taking

@@ -1,5 +1,5 @@
 -- What the calls of a host and of a sink do.
-use Rattle.std.specs.Prelude.{◌≡◌, ℕ, ◌+◌, ◌-◌, ◌^◌, ◌≤◌, min, List, [], ◌++◌, length, take, Option, IfSome, Result, OnOk, OnErr}
+use Rattle.std.specs.Prelude.{◌≡◌, ℕ, ◌+◌, ◌-◌, ◌^◌, ◌≤◌, min, List, [], ◌++◌, length, take, drop, Option, Some, IfSome, Result, OnOk, OnErr}
 use Rattle.std.specs.Option.{option_map}
 
 -- A count of faults rose: it is more than before, or stands at its last value.
@@ -23,3 +23,9 @@ pub record Grows (before after : Option (List ℕ)) : Type 0 where
 pub record PutsFront (before after : Option (List ℕ)) (text : List ℕ) : Type 0 where
   pub count : ℕ
   pub put : after ≡ appended before (take count text)
+
+-- What is left of the bytes when at most so many were taken from the front.
+pub record TakesAtMost (most : ℕ) (bytes : List ℕ) (left : Option (List ℕ)) : Type 0 where
+  pub count : ℕ
+  pub few : count ≤ most
+  pub rest : left ≡ Some (drop count bytes)

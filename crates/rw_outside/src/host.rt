@@ -1,6 +1,6 @@
 // What gives files.
-ghost use Rattle.std.specs.Prelude.{◌≡◌, ◌<◌, ◌≤◌, [], ℕ, List, Option, length, take, drop, Some, ◌+◌, IfSome, IfOk, OnOk, OnErr, IsErrOf};
-ghost use Rattle.rw_outside.specs.Outside.{Rose, prepended};
+ghost use Rattle.std.specs.Prelude.{◌≡◌, ◌<◌, ◌≤◌, ◌⊎◌, [], ℕ, List, Option, length, take, drop, Some, ◌+◌, IfSome, IfOk, OnOk, OnErr, IsErrOf};
+ghost use Rattle.rw_outside.specs.Outside.{Rose, prepended, TakesAtMost};
 ghost use Rattle.rw_outside.specs.declared.host.TakeErr.TheVariants.{NoMemory};
 
 use crate::sink::Failed;
@@ -24,6 +24,7 @@ pub trait Host {
         ensures current { OnOk result (is_current self.new name.now) }
         ensures whole { OnOk result (rest self.new ≡ file self.old name.now) }
         ensures failed { OnErr result (Rose (faults self.old name.now) (faults self.new name.now)) }
+        ensures kept { OnErr result (rest self.new ≡ rest self.old) }
         ensures never_falls { (n : List ℕ) → faults self.old n ≤ faults self.new n }
         ensures files { (n : List ℕ) → file self.new n ≡ file self.old n };
 
@@ -33,6 +34,7 @@ pub trait Host {
         ensures next { IfOk result (λ n. rest self.old ≡ prepended (take n buf.new) (rest self.new)) }
         ensures end { IfOk result (λ n. n ≡ 0 → 0 < length buf.old → IfSome (rest self.old) (λ left. left ≡ [])) }
         ensures failed { OnErr result ((n : List ℕ) → is_current self.old n → Rose (faults self.old n) (faults self.new n)) }
+        ensures kept { OnErr result (rest self.new ≡ rest self.old) }
         ensures current { (n : List ℕ) → is_current self.old n → is_current self.new n }
         ensures never_falls { (n : List ℕ) → faults self.old n ≤ faults self.new n }
         ensures files { (n : List ℕ) → file self.new n ≡ file self.old n };
@@ -66,7 +68,8 @@ pub fn take_all<H: Host>(
     ensures within { IfOk result (λ bytes. length bytes.items ≤ limit) }
     ensures too_long { IsErrOf result TakeErr.TooLong → IfSome (H.file host.old name.now) (λ file. limit < length file) }
     ensures failed { IsErrOf result TakeErr.ReadFault → Rose (H.faults host.old name.now) (H.faults host.new name.now) }
-    // It takes no more than one byte past the limit.
+    // Either no file was begun, or no more of it was taken than one byte past the limit.
+    ensures takes_few { (H.rest host.new ≡ H.rest host.old) ⊎ IfSome (H.file host.old name.now) (λ file. TakesAtMost (limit + 1) file (H.rest host.new)) }
     ensures left { IsErrOf result TakeErr.TooLong → IfSome (H.file host.old name.now) (λ file. H.rest host.new ≡ Some (drop (limit + 1) file)) }
     ensures never_falls { (n : List ℕ) → H.faults host.old n ≤ H.faults host.new n }
     ensures files { (n : List ℕ) → H.file host.new n ≡ H.file host.old n }

@@ -1,7 +1,7 @@
 // Files in memory. Calls fail as it is told.
-ghost use Rattle.std.specs.Prelude.{◌≡◌, ◌+◌, ◌-◌, ◌^◌, ◌<◌, ◌≤◌, ◌↔◌, ◌⊎◌, [], Some, None, ℕ, List, Option, length, take, drop, min, Contains, IfOk, IfSome, MatchOption, OnOk, OnErr, IsErr, IsTrue};
+ghost use Rattle.std.specs.Prelude.{◌≡◌, ◌+◌, ◌-◌, ◌^◌, ◌<◌, ◌≤◌, ◌↔◌, ◌⊎◌, [], Some, None, ℕ, List, Option, length, take, drop, min, Contains, IfOk, IfSome, unwrap_or, MatchOption, OnOk, OnErr, IsErr, IsTrue};
 ghost use Rattle.rw_outside.specs.Outside.{Rose, prepended};
-ghost use Rattle.rw_outside.specs.MemHost.{file_of, seen_files, bytes_at};
+ghost use Rattle.rw_outside.specs.MemHost.{file_of, seen_files, bytes_at, called, failed};
 
 use crate::host::Host;
 use crate::sink::Failed;
@@ -100,7 +100,7 @@ impl MemHost {
     fn is_failing(&mut self) -> bool
         ensures result { IsTrue result ↔ Contains self.old.fail self.old.calls }
         ensures counts { self.old.calls ≤ self.new.calls }
-        ensures after { self.new ≡ record self.old { calls = min (self.old.calls + 1) (2 ^ 64 - 1) } }
+        ensures after { self.new ≡ called self.old }
     {
         let call = self.calls;
         self.calls = self.calls.saturating_add(1);
@@ -109,7 +109,7 @@ impl MemHost {
 
     fn fault(&mut self) -> Failed
         ensures counts { self.old.faults ≤ self.new.faults }
-        ensures after { self.new ≡ record self.old { faults = min (self.old.faults + 1) (2 ^ 64 - 1) } }
+        ensures after { self.new ≡ failed self.old }
     {
         self.faults = self.faults.saturating_add(1);
         Failed
@@ -129,12 +129,16 @@ impl Host for MemHost {
         ensures current { OnOk result (Unit {0}) }
         ensures whole { OnOk result (Some self.new.rest ≡ file_of self.old.files name.now) }
         ensures failed { OnErr result (Rose self.old.faults self.new.faults) }
+        ensures kept { OnErr result (Some self.new.rest ≡ Some self.old.rest) }
         ensures never_falls { (n : List ℕ) → self.old.faults ≤ self.new.faults }
         ensures files { (n : List ℕ) → file_of self.new.files n ≡ file_of self.old.files n }
 
         // It fails exactly where it is told to, and at an unknown name.
         ensures fails { IsErr result ↔ (Contains self.old.fail self.old.calls ⊎ (file_of self.old.files name.now ≡ None)) }
         ensures counts { self.new.calls ≡ min (self.old.calls + 1) (2 ^ 64 - 1) }
+        // What it is left with.
+        ensures after { OnOk result (self.new ≡ record (called self.old) { rest = unwrap_or (file_of self.old.files name.now) [] }) }
+        ensures after_failure { OnErr result (self.new ≡ failed (called self.old)) }
     {
         if self.is_failing() {
             return Err(self.fault());
@@ -152,6 +156,7 @@ impl Host for MemHost {
         ensures next { IfOk result (λ n. Some self.old.rest ≡ prepended (take n buf.new) (Some self.new.rest)) }
         ensures end { IfOk result (λ n. n ≡ 0 → 0 < length buf.old → self.old.rest ≡ []) }
         ensures failed { OnErr result ((n : List ℕ) → Unit {0} → Rose self.old.faults self.new.faults) }
+        ensures kept { OnErr result (Some self.new.rest ≡ Some self.old.rest) }
         ensures current { (n : List ℕ) → Unit {0} → Unit {0} }
         ensures never_falls { (n : List ℕ) → self.old.faults ≤ self.new.faults }
         ensures files { (n : List ℕ) → file_of self.new.files n ≡ file_of self.old.files n }
@@ -160,6 +165,9 @@ impl Host for MemHost {
         ensures gives { IfOk result (λ n. n ≡ min self.old.most (min (length buf.old) (length self.old.rest))) }
         ensures fails { IsErr result ↔ Contains self.old.fail self.old.calls }
         ensures counts { self.new.calls ≡ min (self.old.calls + 1) (2 ^ 64 - 1) }
+        // What it is left with.
+        ensures after { IfOk result (λ n. self.new ≡ record (called self.old) { rest = drop n self.old.rest }) }
+        ensures after_failure { OnErr result (self.new ≡ failed (called self.old)) }
     {
         if self.is_failing() {
             return Err(self.fault());

@@ -1,5 +1,5 @@
 // A sink in memory, with room for so many bytes.
-ghost use Rattle.std.specs.Prelude.{◌≡◌, ◌+◌, ◌<◌, ◌≤◌, ◌↔◌, [], Some, ℕ, length, take, min, IfOk, IfErr, OnOk, OnErr, IsErr};
+ghost use Rattle.std.specs.Prelude.{◌≡◌, ◌+◌, ◌-◌, ◌^◌, ◌<◌, ◌≤◌, ◌↔◌, [], ◌++◌, Some, ℕ, length, take, min, IfOk, IfErr, OnOk, OnErr, IsErr};
 ghost use Rattle.rw_outside.specs.Outside.{Rose, appended, Grows};
 ghost use Rattle.rw_outside.specs.MemSink.{memory_state};
 
@@ -62,6 +62,9 @@ impl Sink for MemSink {
         // It takes as much as the piece and the room allow, and fails only where there is no room at all.
         ensures fills { IfOk result (λ n. (n ≡ min self.old.room (length piece.now)) × (self.new.room + n ≡ self.old.room)) }
         ensures full { IsErr result ↔ ((self.old.room ≡ 0) × (0 < length piece.now)) }
+        // What it is left with.
+        ensures after { IfOk result (λ n. self.new ≡ record { bytes = self.old.bytes ++ take n piece.now; room = self.old.room - n; faults = self.old.faults }) }
+        ensures after_failure { OnErr result (self.new ≡ record self.old { faults = min (self.old.faults + 1) (2 ^ 64 - 1) }) }
     {
         let count = self.room.min(piece.len());
         if count == 0 && !piece.is_empty() {

@@ -1,5 +1,5 @@
 // A host and a sink that never fail.
-ghost use Rattle.std.specs.Prelude.{◌≡◌, ◌+◌, ◌%◌, ◌^◌, ◌≤◌, ◌<◌, [], Option, None, Some, ℕ, List, sum, length, take, min, IfOk, OnOk, OnErr, IsOk, unwrap_or};
+ghost use Rattle.std.specs.Prelude.{◌≡◌, ◌+◌, ◌%◌, ◌^◌, ◌≤◌, ◌<◌, [], Option, None, Some, ℕ, List, sum, length, take, drop, min, IfOk, OnOk, OnErr, IsOk, unwrap_or};
 ghost use Rattle.rw_outside.specs.Outside.{Rose, appended, prepended, Grows};
 ghost use Rattle.rw_outside.specs.MemSink.{silent_state};
 ghost use Rattle.rw_outside.specs.MemHost.{file_of, seen_files, bytes_at};
@@ -58,8 +58,12 @@ impl Host for SureHost {
         ensures whole { OnOk result (Some self.new.rest ≡ Some (unwrap_or (file_of self.old.files name.now) [])) }
         ensures current { OnOk result (Unit {0}) }
         ensures failed { OnErr result (Rose 0 0) }
+        ensures kept { OnErr result (Some self.new.rest ≡ Some self.old.rest) }
         ensures never_falls { (n : List ℕ) → 0 ≤ 0 }
         ensures files { (n : List ℕ) → Some (unwrap_or (file_of self.new.files n) []) ≡ Some (unwrap_or (file_of self.old.files n) []) }
+
+        // What it is left with.
+        ensures after { self.new ≡ record self.old { rest = unwrap_or (file_of self.old.files name.now) [] } }
     {
         self.current = match place_of(&self.files, name.as_bytes()) {
             Some(place) => place,
@@ -75,12 +79,15 @@ impl Host for SureHost {
         ensures next { IfOk result (λ n. Some self.old.rest ≡ prepended (take n buf.new) (Some self.new.rest)) }
         ensures end { IfOk result (λ n. n ≡ 0 → 0 < length buf.old → self.old.rest ≡ []) }
         ensures failed { OnErr result ((n : List ℕ) → Unit {0} → Rose 0 0) }
+        ensures kept { OnErr result (Some self.new.rest ≡ Some self.old.rest) }
         ensures current { (n : List ℕ) → Unit {0} → Unit {0} }
         ensures never_falls { (n : List ℕ) → 0 ≤ 0 }
         ensures files { (n : List ℕ) → Some (unwrap_or (file_of self.new.files n) []) ≡ Some (unwrap_or (file_of self.old.files n) []) }
 
         // It gives as many bytes as the buffer and the file allow.
         ensures gives { IfOk result (λ n. n ≡ min (length buf.old) (length self.old.rest)) }
+        // What it is left with.
+        ensures after { IfOk result (λ n. self.new ≡ record self.old { rest = drop n self.old.rest }) }
     {
         let bytes = bytes_of(&self.files, self.current);
         let count = copy_front(&bytes[self.at..], buf, usize::MAX);
