@@ -7,14 +7,15 @@ use Rattle.std.proofs.lemmas.Bool.Decides.{nat_tests}
 use Rattle.mlir_tree.specs.declared.row.Row.{Row}
 use Rattle.rewrite_model.specs.Pattern.{Pattern}
 use Rattle.rewrite_model.specs.Matching.{MatchesBy, Matches, NoneAt, IsBest}
-use Rattle.rewrite_model.specs.Running.{NoneAmong}
+use Rattle.rewrite_model.specs.Running.{ahead, NoneAmong}
 use Rattle.rewrite_model.specs.Determined.{IsDetermined, AreDetermined}
 use Rattle.row_matcher.specs.View.{thing_of}
 use Rattle.pdll_patterns.specs.declared.pattern.Pattern.{Pattern as PatternNode}
 use Rattle.pdll_patterns.specs.View.{pattern_of}
 use Rattle.row_matcher.specs.declared.thing.Thing.{Thing as ThingNode}
+use Rattle.rewrite_model.specs.declared.run.Order.{Order}
 use Rattle.greedy_driver.specs.declared.next.Found.{Found}
-use Rattle.greedy_driver.specs.Found.{IsBestOf, NoneOf, BestOf, IsFirst, benefit_at, is_as_good}
+use Rattle.greedy_driver.specs.Found.{IsBestOf, NoneOf, BestOf, IsNextFound, benefit_at, is_as_good}
 
 pub when_some : {A : Type 0} (P : A → Type 0) (o : Option A) (a : A) → o ≡ Some a → IfSome o P → P a
 when_some P o a e h = subst (λ x. IfSome x P) e h
@@ -159,17 +160,17 @@ is_best ps rows id f p b = record {
   best = λ j q e m. b.best j q (inside ps j q e) e m;
 }
 
--- the first row at which one matches
-pub first : (ps : List PatternNode) (rows before after : List Row) (r : Row) (f : Found) → rows ≡ before ++ (r ∷ after) → NoneAmong (map pattern_of ps) rows before
-    → BestOf (map pattern_of ps) rows r.id (length ps) (Some f) → IsFirst (map pattern_of ps) rows (Some (r.id, f))
-first ps rows before after r f e none b = (
+-- the next row at which one matches
+pub next_here : (order : Order) (ps : List PatternNode) (rows before after : List Row) (r : Row) (f : Found) → rows ≡ before ++ (r ∷ after) → NoneAmong (map pattern_of ps) rows (ahead order before after)
+    → BestOf (map pattern_of ps) rows r.id (length ps) (Some f) → IsNextFound order (map pattern_of ps) rows (Some (r.id, f))
+next_here order ps rows before after r f e none b = (
   b.0,
   record {
     before = before;
     row = r;
     after = after;
     in_order = e;
-    none_before = none;
+    none_ahead = none;
     number = refl;
     best = is_best ps rows r.id f b.0 b.1;
   },
@@ -194,3 +195,14 @@ cut rows k d l = subst (λ n. rows ≡ take k rows ++ (slice_index_or rows k d �
 
 pub one_more : (ps : List Pattern) (all rows : List Row) (k : ℕ) (d : Row) → k < length rows → NoneAmong ps all (take k rows) → NoneAt ps all (slice_index_or rows k d).id → NoneAmong ps all (take (k + 1) rows)
 one_more ps all rows k d l none here = subst (λ n. NoneAmong ps all (take n rows)) (next_is k) (one_more_at ps all rows k d l none here)
+
+-- ---- from the end
+
+pub none_behind : (ps : List Pattern) (all rows : List Row) (k : ℕ) → length rows ≤ k → NoneAmong ps all (drop k rows)
+none_behind ps all rows k l = subst (NoneAmong ps all) (sym (drop_all k rows l)) tt
+
+pub one_before : (ps : List Pattern) (all rows : List Row) (k : ℕ) (d : Row) → 0 < k → k - 1 < length rows → NoneAmong ps all (drop k rows) → NoneAt ps all (slice_index_or rows (k - 1) d).id
+    → NoneAmong ps all (drop (k - 1) rows)
+one_before ps all rows k d some within none here =
+    let next : suc (k - 1) ≡ k = omega (arith, some) in
+    subst (NoneAmong ps all) (sym (drop-cons rows (k - 1) d within)) (here, subst (λ n. NoneAmong ps all (drop n rows)) (sym next) none)

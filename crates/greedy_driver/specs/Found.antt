@@ -3,6 +3,7 @@ use Rattle.std.specs.Prelude.{◌≡◌, ◌⊎◌, ℕ, ◌<◌, ◌≤◌, nat
 use Rattle.std.specs.Option.{option_map_or}
 use Rattle.mlir_tree.specs.declared.row.Row.{Row}
 use Rattle.rewrite_model.specs.declared.run.Hit.{Hit}
+use Rattle.rewrite_model.specs.declared.run.Order.{Order}
 use Rattle.rewrite_model.specs.Pattern.{Pattern}
 use Rattle.rewrite_model.specs.Matching.{MatchesBy, Matches}
 use Rattle.rewrite_model.specs.Running.{NoneAmong, IsNext}
@@ -32,10 +33,10 @@ BestOf ps rows id n (Some f) = (p : Pattern) × IsBestOf ps rows id n f p
 abbrev pub hit_of : ℕ → ℕ → Hit
 hit_of pattern row = record { pattern = pattern; row = row }
 
--- The first operation at which a pattern matches, with its best pattern, or there is none.
-abbrev pub IsFirst : List Pattern → List Row → Option (ℕ × Found) → Type 0
-IsFirst ps rows None = NoneAmong ps rows rows
-IsFirst ps rows (Some x) = (p : Pattern) × IsNext ps rows (hit_of x.1.at x.0) p × IsFound ps rows x.0 x.1 p
+-- The first operation in this order at which a pattern matches, with its best pattern, or there is none.
+abbrev pub IsNextFound : Order → List Pattern → List Row → Option (ℕ × Found) → Type 0
+IsNextFound order ps rows None = NoneAmong ps rows rows
+IsNextFound order ps rows (Some x) = (p : Pattern) × IsNext order ps rows (hit_of x.1.at x.0) p × IsFound ps rows x.0 x.1 p
 
 abbrev pub benefit_at : List Pattern → ℕ → ℕ
 benefit_at ps k = option_map_or (λ p. p.benefit) (slice_get ps k) 0

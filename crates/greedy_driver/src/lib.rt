@@ -6,4 +6,5 @@ pub mod next;
 pub mod turn;
 
 pub use drive::drive_rows;
-pub use rewrite_model::run::{Ending, Run, StepRec};
+pub use rewrite_model::run::{Ending, Order};
+pub use run_model::run::{Run, StepRec};

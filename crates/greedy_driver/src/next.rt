@@ -1,13 +1,15 @@
 //! Where the next step is.
 
 ghost use Rattle.std.specs.Prelude.{◌≡◌, ◌<◌, ◌+◌, List, length, map, IfOk};
+ghost use Rattle.rewrite_model.specs.declared.run.Order.TheVariants as orders;
 ghost use Rattle.rewrite_model.specs.Determined.{AreDetermined};
 ghost use Rattle.row_index.specs.Indexing.{Indexes};
 ghost use Rattle.pdll_patterns.specs.View.{pattern_of};
-ghost use Rattle.greedy_driver.specs.Found.{BestOf, IsFirst, benefit_at, is_as_good};
+ghost use Rattle.greedy_driver.specs.Found.{BestOf, IsNextFound, benefit_at, is_as_good};
 
 use mlir_tree::row::Row;
 use pdll_patterns::pattern::Pattern;
+use rewrite_model::run::Order;
 use row_index::index::RowIndex;
 use row_matcher::matching::match_at;
 use row_matcher::thing::Thing;
@@ -90,7 +92,7 @@ fn best(
 }
 
 /// The first operation in text order at which a pattern matches, with its best pattern.
-pub fn next(
+fn first(
     alloc: Global,
     rows: &[Row],
     index: &RowIndex,
@@ -98,7 +100,7 @@ pub fn next(
 ) -> Result<Option<(u32, Found)>, AllocError>
     requires index { Indexes index.now rows.now }
     requires determined { ∥ AreDetermined (map pattern_of patterns.now) ∥₁ }
-    ensures { IfOk result (λ o. IsFirst (map pattern_of patterns.now) rows.now o) }
+    ensures { IfOk result (λ o. IsNextFound orders.First (map pattern_of patterns.now) rows.now o) }
 {
     for row in rows {
         if let Some(found) = best(alloc, rows, index, patterns, row.id)? {
@@ -106,4 +108,44 @@ pub fn next(
         }
     }
     Ok(None)
+}
+
+/// The last one.
+fn last(
+    alloc: Global,
+    rows: &[Row],
+    index: &RowIndex,
+    patterns: &[Pattern<'_>],
+) -> Result<Option<(u32, Found)>, AllocError>
+    requires index { Indexes index.now rows.now }
+    requires determined { ∥ AreDetermined (map pattern_of patterns.now) ∥₁ }
+    ensures { IfOk result (λ o. IsNextFound orders.Last (map pattern_of patterns.now) rows.now o) }
+{
+    let mut at = rows.len();
+    while at > 0 {
+        at -= 1;
+        let row = &rows[at];
+        if let Some(found) = best(alloc, rows, index, patterns, row.id)? {
+            return Ok(Some((row.id, found)));
+        }
+    }
+    Ok(None)
+}
+
+/// The first operation in this order at which a pattern matches, with its best pattern.
+pub fn next(
+    alloc: Global,
+    rows: &[Row],
+    index: &RowIndex,
+    patterns: &[Pattern<'_>],
+    order: Order,
+) -> Result<Option<(u32, Found)>, AllocError>
+    requires index { Indexes index.now rows.now }
+    requires determined { ∥ AreDetermined (map pattern_of patterns.now) ∥₁ }
+    ensures { IfOk result (λ o. IsNextFound order (map pattern_of patterns.now) rows.now o) }
+{
+    match order {
+        Order::First => first(alloc, rows, index, patterns),
+        Order::Last => last(alloc, rows, index, patterns),
+    }
 }

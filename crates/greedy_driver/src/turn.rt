@@ -10,7 +10,7 @@ ghost use Rattle.rewrite_model.specs.Running.{taken, ending_by, Reaches};
 ghost use Rattle.row_matcher.specs.View.{thing_of};
 ghost use Rattle.pdll_patterns.specs.View.{pattern_of};
 ghost use Rattle.rewrite_step.specs.View.{stop_of};
-ghost use Rattle.greedy_driver.specs.Found.{IsFirst};
+ghost use Rattle.greedy_driver.specs.Found.{IsNextFound};
 ghost use Rattle.greedy_driver.specs.Course.{IsTurn};
 
 use crate::next::{Found, next};
@@ -18,12 +18,13 @@ use mlir_tree::refusal::Refusal;
 use mlir_tree::rows::Rows;
 use pdll_patterns::pattern::Pattern;
 use rewrite_model::laws::{numbers_rise, steps_keep_well_formed};
-use rewrite_model::run::{BoundKind, Broken, Ending, Hit, StepRec};
+use rewrite_model::run::{BoundKind, Broken, Ending, Hit, Order};
 use rewrite_step::refresh::refresh;
 use rewrite_step::step::{made_numbers, removed_numbers, step};
 use rewrite_step::stop::Stop;
 use row_index::index::RowIndex;
 use row_matcher::thing::Thing;
+use run_model::run::StepRec;
 use shared_text::SharedText;
 use sqlite_items::Items;
 use std::alloc::{AllocError, Global};
@@ -131,18 +132,19 @@ fn number_of(at: usize) -> Result<u32, AllocError>
     Ok(at as u32)
 }
 
-/// The first operation at which a pattern matches, with its best pattern.
+/// The next operation at which a pattern matches, with its best pattern.
 fn locate(
     alloc: Global,
     rows: &Rows,
     index: &RowIndex,
     patterns: &[Pattern<'_>],
+    order: Order,
 ) -> Result<Option<(u32, Found)>, AllocError>
     requires index { Indexes index.now rows.now.rows }
     requires determined { ∥ AreDetermined (map pattern_of patterns.now) ∥₁ }
-    ensures { IfOk result (λ o. IsFirst (map pattern_of patterns.now) rows.now.rows o) }
+    ensures { IfOk result (λ o. IsNextFound order (map pattern_of patterns.now) rows.now.rows o) }
 {
-    next(alloc, rows.rows.as_slice(), index, patterns)
+    next(alloc, rows.rows.as_slice(), index, patterns, order)
 }
 
 /// Takes the step that is next, where steps are left.
@@ -151,14 +153,15 @@ fn take(
     rows: &mut Rows,
     spare: &mut Rows,
     patterns: &[Pattern<'_>],
+    order: Order,
     left: u32,
     row: u32,
     found: &Found,
 ) -> Result<Turn, AllocError>
     requires well_formed { IsWellFormed rows.old }
-    requires found { IsFirst (map pattern_of patterns.now) rows.old.rows (Some (row, found.now)) }
-    ensures turn { IfOk result (λ t. IsTurn (map pattern_of patterns.now) left rows.old rows.new t) }
-    ensures reached { Reaches (map pattern_of patterns.now) left rows.old rows.new }
+    requires found { IsNextFound order (map pattern_of patterns.now) rows.old.rows (Some (row, found.now)) }
+    ensures turn { IfOk result (λ t. IsTurn order (map pattern_of patterns.now) left rows.old rows.new t) }
+    ensures reached { Reaches order (map pattern_of patterns.now) left rows.old rows.new }
     ensures well_formed { IsWellFormed rows.new }
 {
     let hit = Hit {
@@ -190,17 +193,18 @@ pub fn go_on(
     index: &RowIndex,
     spare: &mut Rows,
     patterns: &[Pattern<'_>],
+    order: Order,
     left: u32,
 ) -> Result<Turn, AllocError>
     requires well_formed { IsWellFormed rows.old }
     requires index { Indexes index.now rows.old.rows }
     requires determined { ∥ AreDetermined (map pattern_of patterns.now) ∥₁ }
-    ensures turn { IfOk result (λ t. IsTurn (map pattern_of patterns.now) left rows.old rows.new t) }
-    ensures reached { Reaches (map pattern_of patterns.now) left rows.old rows.new }
+    ensures turn { IfOk result (λ t. IsTurn order (map pattern_of patterns.now) left rows.old rows.new t) }
+    ensures reached { Reaches order (map pattern_of patterns.now) left rows.old rows.new }
     ensures well_formed { IsWellFormed rows.new }
 {
-    match locate(alloc, rows, index, patterns)? {
+    match locate(alloc, rows, index, patterns, order)? {
         None => Ok(Turn::Ended(Ending::Converged)),
-        Some((row, found)) => take(alloc, rows, spare, patterns, left, row, &found),
+        Some((row, found)) => take(alloc, rows, spare, patterns, order, left, row, &found),
     }
 }

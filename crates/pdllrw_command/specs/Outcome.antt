@@ -27,8 +27,9 @@ use Rattle.rewrite_model.specs.declared.run.Hit.{Hit}
 use Rattle.rewrite_model.specs.declared.run.Ending.{Ending}
 use Rattle.rewrite_model.specs.declared.run.Ending.TheVariants as endings
 use Rattle.rewrite_model.specs.Expanding.{patterns}
+use Rattle.rewrite_model.specs.declared.run.Order.TheVariants.{First}
 use Rattle.rewrite_model.specs.Running.{Course, Runs, Reaches}
-use Rattle.rewrite_model.specs.LogText.{log_text}
+use Rattle.run_model.specs.LogText.{log_text}
 use Rattle.command_line.specs.Command.{command_of}
 use Rattle.pdllrw_command.specs.declared.status.Status.{Status}
 use Rattle.pdllrw_command.specs.declared.status.Status.TheVariants as statuses
@@ -135,9 +136,9 @@ pub record Rewrites (files : List ℕ → Option (List ℕ)) (words : List (List
   pub rows : Rows
   pub is_module : IfSome (files command.module_file) (AcceptsModule rows)
   pub course : Course
-  pub runs : Runs (patterns file) command.bound rows course
+  pub runs : Runs First (patterns file) command.bound rows course
   -- each module between is well-formed, the first and the last one too
-  pub well_formed : (m : Rows) → Reaches (patterns file) command.bound rows m → IsWellFormed m
+  pub well_formed : (m : Rows) → Reaches First (patterns file) command.bound rows m → IsWellFormed m
   pub ends : course.ending ≡ ending
   pub out_is : out ≡ module_text course.rows.rows
   pub log_is : log ≡ log_text course.taken course.ending

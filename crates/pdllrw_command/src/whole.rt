@@ -4,7 +4,7 @@ ghost use Rattle.rw_outside.specs.Outside.{Rose, appended, PutsFront};
 ghost use Rattle.mlir_tree.specs.WellFormed.{IsWellFormed};
 ghost use Rattle.mlir_print.specs.NumberMaps.{AreNumbersOf};
 ghost use Rattle.mlir_print.specs.ModuleText.{module_text};
-ghost use Rattle.rewrite_model.specs.LogText.{log_text};
+ghost use Rattle.run_model.specs.LogText.{log_text};
 ghost use Rattle.rw_outside.specs.Puts.{Puts};
 ghost use Rattle.pdllrw_command.specs.declared.status.Status.TheVariants as statuses;
 ghost use Rattle.pdllrw_command.specs.Outcome.{IsOutcome, placed_line, patterns_line, module_line, plain_line, line_of, kind_of_ending};
@@ -22,7 +22,8 @@ use mlir_print::{Numbers, number, print_rows};
 use mlir_tree::rows::Rows;
 use pdll_syntax::fault::PatKind;
 use rewrite_model::laws::runs_keep_well_formed;
-use rewrite_model::run::{Ending, Run};
+use rewrite_model::run::{Ending, Order};
+use run_model::run::Run;
 use run_log::put_log;
 use rw_outside::{BufferedSink, Failed, Host, Sink, put_all};
 use std::alloc::{AllocError, Global};
@@ -218,7 +219,7 @@ pub fn run<H: Host, S: Sink, G: Sink>(
         Ok(rows) => rows,
         Err(stop) => return refuse(log, stop),
     };
-    let Ok(run) = drive_rows(alloc, &mut rows, &typed, command.bound) else {
+    let Ok(run) = drive_rows(alloc, &mut rows, &typed, Order::First, command.bound) else {
         return Status::NoMemory;
     };
     // From the well-formed module that was read, the run leads through well-formed ones.

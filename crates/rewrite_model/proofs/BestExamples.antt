@@ -5,6 +5,7 @@ use Rattle.mlir_tree.specs.declared.row.Row.{Row}
 use Rattle.mlir_tree.specs.declared.rows.Rows.{Rows}
 use Rattle.mlir_tree.specs.declared.value.Val.TheVariants.{Res}
 use Rattle.rewrite_model.specs.declared.run.Hit.{Hit}
+use Rattle.rewrite_model.specs.declared.run.Order.TheVariants.{First}
 use Rattle.rewrite_model.specs.declared.run.Ending.TheVariants.{Converged}
 use Rattle.rewrite_model.specs.Pattern.{Parts, Expr, the, only_result, has_parts, Pattern}
 use Rattle.rewrite_model.specs.Determined.{IsIn, Determined, given_one, part_of, IsDetermined}
@@ -143,26 +144,26 @@ abbrev hit : ℕ → ℕ → Hit
 hit k id = record { pattern = k; row = id }
 
 -- While the dead operation uses the first value too, the value has two uses, and the first pattern matches nowhere.
-first_step : IsNext ps before.rows (hit 1 4) drop_dead
+first_step : IsNext First ps before.rows (hit 1 4) drop_dead
 unfolding less_or_not
 first_step = record {
   before = take 4 before.rows;
   row = dead;
   after = [];
   in_order = refl;
-  none_before = (none_at before.rows 0 refl refl, (none_at before.rows 1 refl refl, (none_at before.rows 2 refl refl, (none_at before.rows 3 refl refl, tt))));
+  none_ahead = (none_at before.rows 0 refl refl, (none_at before.rows 1 refl refl, (none_at before.rows 2 refl refl, (none_at before.rows 3 refl refl, tt))));
   number = refl;
   best = drop_best;
 }
 
-second_step : IsNext ps (with_dead []).rows (hit 0 3) fuse
+second_step : IsNext First ps (with_dead []).rows (hit 0 3) fuse
 unfolding less_or_not
 second_step = record {
   before = take 3 (with_dead []).rows;
   row = op 3 (codes "t.c") (Res 2 0 ∷ []) (i32 ∷ []);
   after = [];
   in_order = refl;
-  none_before = (none_at (with_dead []).rows 0 refl refl, (none_at (with_dead []).rows 1 refl refl, (none_at (with_dead []).rows 2 refl refl, tt)));
+  none_ahead = (none_at (with_dead []).rows 0 refl refl, (none_at (with_dead []).rows 1 refl refl, (none_at (with_dead []).rows 2 refl refl, tt)));
   number = refl;
   best = fuse_best;
 }
@@ -171,7 +172,7 @@ none_left : NoneAmong ps after.rows after.rows
 unfolding less_or_not
 none_left = (none_at after.rows 0 refl refl, (none_at after.rows 1 refl refl, (none_at after.rows 2 refl refl, (none_at after.rows 5 refl refl, tt))))
 
-fuse_run : Runs ps 10000 before (record {
+fuse_run : Runs First ps 10000 before (record {
   taken =
       record { pattern = 1; name = codes "Drop"; root = 4; made = []; removed = 4 ∷ [] }
       ∷ record { pattern = 0; name = codes "Fuse"; root = 3; made = 5 ∷ []; removed = 3 ∷ [] }

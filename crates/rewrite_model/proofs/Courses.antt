@@ -33,11 +33,11 @@ steps_keep_visible p a id m n e = by (rewritten p a id m) e where
   by (Err x) e = absurd (cc)
 
 pub runs_keep_visible : RunsKeepOperandsVisible
-runs_keep_visible ps n m _ v (converges z) = v
-runs_keep_visible ps _ m _ v (is_bounded s) = v
-runs_keep_visible ps _ m _ v (is_stopped s a e) = v
-runs_keep_visible ps (suc n) m _ v (goes_on {m' = m'} {h = h} {p = p} {a = a} {c = c} s w e r) =
-    runs_keep_visible ps n m' c (steps_keep_visible p a h.row m m' e) r
+runs_keep_visible order ps n m _ v (converges z) = v
+runs_keep_visible order ps _ m _ v (is_bounded s) = v
+runs_keep_visible order ps _ m _ v (is_stopped s a e) = v
+runs_keep_visible order ps (suc n) m _ v (goes_on {m' = m'} {h = h} {p = p} {a = a} {c = c} s w e r) =
+    runs_keep_visible order ps n m' c (steps_keep_visible p a h.row m m' e) r
 
 -- ---- convergence
 
@@ -53,10 +53,10 @@ stopped_is_not h (bound k) e = let f = ap is_converged e in cc
 
 pub converged_matches_nowhere : ConvergedRunsMatchNowhere
 unfolding is_converged
-converged_matches_nowhere ps n m _ (converges z) e = z
-converged_matches_nowhere ps _ m _ (is_bounded s) e = let f = ap is_converged e in absurd (cc)
-converged_matches_nowhere ps _ m _ (is_stopped {h = h} {e = x} s a w) e = absurd (stopped_is_not h x e)
-converged_matches_nowhere ps (suc n) m _ (goes_on {m' = m'} {c = c} s a w r) e = converged_matches_nowhere ps n m' c r e
+converged_matches_nowhere order ps n m _ (converges z) e = z
+converged_matches_nowhere order ps _ m _ (is_bounded s) e = let f = ap is_converged e in absurd (cc)
+converged_matches_nowhere order ps _ m _ (is_stopped {h = h} {e = x} s a w) e = absurd (stopped_is_not h x e)
+converged_matches_nowhere order ps (suc n) m _ (goes_on {m' = m'} {c = c} s a w r) e = converged_matches_nowhere order ps n m' c r e
 
 -- ---- rising numbers
 

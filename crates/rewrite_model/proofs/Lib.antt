@@ -2,7 +2,6 @@ pub mod Samples
 pub mod Examples
 pub mod ExpandingExamples
 pub mod BodiesExamples
-pub mod LogExamples
 pub mod Told
 pub mod Unique
 pub mod Deciding

@@ -4,6 +4,7 @@ use Rattle.std.proofs.Common.{◌⊎◌, inl, inr, refl, sym, ap, subst, arith}
 use Rattle.mlir_tree.specs.declared.row.Row.{Row}
 use Rattle.mlir_tree.specs.declared.value.Val.TheVariants.{Res}
 use Rattle.rewrite_model.specs.declared.run.Hit.{Hit}
+use Rattle.rewrite_model.specs.declared.run.Order.TheVariants.{First}
 use Rattle.rewrite_model.specs.declared.run.Ending.TheVariants.{Converged}
 use Rattle.rewrite_model.specs.Pattern.{Parts, Expr, the, only_result, has_parts, Pattern}
 use Rattle.rewrite_model.specs.Determined.{IsIn, Determined, given_one, part_of, IsDetermined}
@@ -69,14 +70,14 @@ is_best = record { declared = refl; matches = (shapes_given, shapes_match); best
   best zero q e m = inr (ap (λ o. (some_or reshape_reshape o).benefit) (sym e), omega arith)
   best (suc j) q e m = absurd (cc)
 
-is_next : IsNext ps shapes.rows hit reshape_reshape
+is_next : IsNext First ps shapes.rows hit reshape_reshape
 unfolding less_or_not
 is_next = record {
   before = take 3 shapes.rows;
   row = op 3 (codes "t.reshape") (Res 2 0 ∷ []) (word (codes "tensor<1x4xf32>") ∷ []);
   after = drop 4 shapes.rows;
   in_order = refl;
-  none_before = (not_here shapes.rows 0 refl, (not_here shapes.rows 1 refl, (not_here shapes.rows 2 refl, tt)));
+  none_ahead = (not_here shapes.rows 0 refl, (not_here shapes.rows 1 refl, (not_here shapes.rows 2 refl, tt)));
   number = refl;
   best = is_best;
 }
@@ -87,7 +88,7 @@ none_left =
     (not_here shapes_after.rows 0 refl, (not_here shapes_after.rows 1 refl, (not_here shapes_after.rows 2 refl, (not_here shapes_after.rows 5 refl, (not_here shapes_after.rows 4 refl, tt)))))
 
 -- One step is taken, and no pattern matches in the module that it leaves.
-reshape_run : Runs ps 10000 shapes (record {
+reshape_run : Runs First ps 10000 shapes (record {
   taken = record { pattern = 0; name = codes "ReshapeReshape"; root = 3; made = 5 ∷ []; removed = 3 ∷ [] } ∷ [];
   ending = Converged;
   rows = shapes_after;

@@ -4,12 +4,14 @@ use Rattle.std.specs.Prelude.{slice_get}
 use Rattle.mlir_tree.specs.declared.row.Row.{Row}
 use Rattle.mlir_tree.specs.declared.rows.Rows.{Rows}
 use Rattle.rewrite_model.specs.declared.run.Hit.{Hit}
+use Rattle.rewrite_model.specs.declared.run.Order.{Order}
+use Rattle.rewrite_model.specs.declared.run.Order.TheVariants.{First, Last}
 use Rattle.rewrite_model.specs.Pattern.{Pattern}
 use Rattle.rewrite_model.specs.Determined.{IsDetermined}
 use Rattle.rewrite_model.specs.Matching.{Matches, NoneAt, IsBest}
 use Rattle.rewrite_model.specs.Making.{Stop}
 use Rattle.rewrite_model.specs.Step.{step}
-use Rattle.rewrite_model.specs.Running.{Course, NoneAmong, IsNext, Runs, converges, is_bounded, is_stopped, goes_on}
+use Rattle.rewrite_model.specs.Running.{Course, NoneAmong, ahead, IsNext, Runs, converges, is_bounded, is_stopped, goes_on}
 use Rattle.rewrite_model.specs.Laws.{OneRun}
 use Rattle.rewrite_model.proofs.Told.{some_or}
 use Rattle.rewrite_model.proofs.Unique.{less_or_not}
@@ -65,39 +67,51 @@ module _ (rows : List Row) (id : ℕ) where
 
 -- ---- the next step
 
-abbrev Next : List Pattern → List Row → List Row → Type 0
-Next ps all rs = ((before : List Row) × (row : Row) × (after : List Row) × (rs ≡ before ++ (row ∷ after)) × NoneAmong ps all before × (k : ℕ) × (p : Pattern) × IsBest ps all row.id k p) ⊎ NoneAmong ps all rs
+abbrev Next : Order → List Pattern → List Row → List Row → Type 0
+Next order ps all rs = ((before : List Row) × (row : Row) × (after : List Row) × (rs ≡ before ++ (row ∷ after)) × NoneAmong ps all (ahead order before after) × (k : ℕ) × (p : Pattern) × IsBest ps all row.id k p) ⊎ NoneAmong ps all rs
 
-next_in : (ps : List Pattern) (all rs : List Row) → ((id : ℕ) → Found ps all id) → Next ps all rs
-next_in ps all [] d = inr tt
-next_in ps all (r ∷ rs) d = by (d r.id) (next_in ps all rs d) where
-  by : Found ps all r.id → Next ps all rs → Next ps all (r ∷ rs)
+first_in : (ps : List Pattern) (all rs : List Row) → ((id : ℕ) → Found ps all id) → Next First ps all rs
+first_in ps all [] d = inr tt
+first_in ps all (r ∷ rs) d = by (d r.id) (first_in ps all rs d) where
+  by : Found ps all r.id → Next First ps all rs → Next First ps all (r ∷ rs)
   by (inl b) n = inl ([], r, rs, refl, tt, b.0, b.1, b.2)
   by (inr z) (inr n) = inr (z, n)
   by (inr z) (inl (before, row, after, e, n, k, p, b)) = inl (r ∷ before, row, after, ap (λ w. r ∷ w) e, (z, n), k, p, b)
 
+last_in : (ps : List Pattern) (all rs : List Row) → ((id : ℕ) → Found ps all id) → Next Last ps all rs
+last_in ps all [] d = inr tt
+last_in ps all (r ∷ rs) d = by (d r.id) (last_in ps all rs d) where
+  by : Found ps all r.id → Next Last ps all rs → Next Last ps all (r ∷ rs)
+  by f (inl (before, row, after, e, n, k, p, b)) = inl (r ∷ before, row, after, ap (λ w. r ∷ w) e, n, k, p, b)
+  by (inl b) (inr n) = inl ([], r, rs, refl, n, b.0, b.1, b.2)
+  by (inr z) (inr n) = inr (z, n)
+
+next_in : (order : Order) (ps : List Pattern) (all rs : List Row) → ((id : ℕ) → Found ps all id) → Next order ps all rs
+next_in First = first_in
+next_in Last = last_in
+
 abbrev hit : ℕ → ℕ → Hit
 hit k id = record { pattern = k; row = id }
 
-module _ (ps : List Pattern) (d : (rows : List Row) (id : ℕ) → AreDecided ps rows id) where
-  some_run : (n : ℕ) (m : Rows) → (c : Course) × Runs ps n m c
-  some_run zero m = by (next_in ps m.rows m.rows (λ id. best_in m.rows id ps (d m.rows id))) where
-    by : Next ps m.rows m.rows → (c : Course) × Runs ps zero m c
+module _ (order : Order) (ps : List Pattern) (d : (rows : List Row) (id : ℕ) → AreDecided ps rows id) where
+  some_run : (n : ℕ) (m : Rows) → (c : Course) × Runs order ps n m c
+  some_run zero m = by (next_in order ps m.rows m.rows (λ id. best_in m.rows id ps (d m.rows id))) where
+    by : Next order ps m.rows m.rows → (c : Course) × Runs order ps zero m c
     by (inr z) = (_, converges z)
     by (inl (before, row, after, e, n, k, p, b)) =
-        (_, is_bounded {h = hit k row.id} {p = p} (record { before = before; row = row; after = after; in_order = e; none_before = n; number = refl; best = b }))
-  some_run (suc n) m = by (next_in ps m.rows m.rows (λ id. best_in m.rows id ps (d m.rows id))) (some_run n) where
-    by : Next ps m.rows m.rows → ((m : Rows) → (c : Course) × Runs ps n m c) → (c : Course) × Runs ps (suc n) m c
+        (_, is_bounded {h = hit k row.id} {p = p} (record { before = before; row = row; after = after; in_order = e; none_ahead = n; number = refl; best = b }))
+  some_run (suc n) m = by (next_in order ps m.rows m.rows (λ id. best_in m.rows id ps (d m.rows id))) (some_run n) where
+    by : Next order ps m.rows m.rows → ((m : Rows) → (c : Course) × Runs order ps n m c) → (c : Course) × Runs order ps (suc n) m c
     by (inr z) go = (_, converges z)
     by (inl (before, row, after, e, z, k, p, b)) go = of (step p b.matches.0 row.id m) refl where
-      s : IsNext ps m.rows (hit k row.id) p
-      s = record { before = before; row = row; after = after; in_order = e; none_before = z; number = refl; best = b }
+      s : IsNext order ps m.rows (hit k row.id) p
+      s = record { before = before; row = row; after = after; in_order = e; none_ahead = z; number = refl; best = b }
 
-      of : (o : Result Rows Stop) → step p b.matches.0 row.id m ≡ o → (c : Course) × Runs ps (suc n) m c
+      of : (o : Result Rows Stop) → step p b.matches.0 row.id m ≡ o → (c : Course) × Runs order ps (suc n) m c
       of (Err x) q = (_, is_stopped {h = hit k row.id} {p = p} s b.matches.1 q)
       of (Ok m') q = let r = go m' in (_, goes_on {h = hit k row.id} {p = p} s b.matches.1 q r.1)
 
 pub one_run : OneRun
-one_run ps all n m =
-    let r = some_run ps (λ rows id k p e. matches_are_decided p (holds_at IsDetermined ps k p all e) rows id) n m in
-    (r.0, r.1, λ d s. at_most_one_run ps all n m d r.0 s r.1)
+one_run order ps all n m =
+    let r = some_run order ps (λ rows id k p e. matches_are_decided p (holds_at IsDetermined ps k p all e) rows id) n m in
+    (r.0, r.1, λ d s. at_most_one_run order ps all n m d r.0 s r.1)

@@ -169,12 +169,12 @@ steps_keep_well_formed p a id m n w e =
     record { numbers = l.numbers; nesting = l.nesting; operands = steps_keep_visible p a id m n e; dictionaries = l.dictionaries; sizes = l.sizes }
 
 pub runs_keep_well_formed : RunsKeepWellFormed
-runs_keep_well_formed ps n m _ w stays = w
-runs_keep_well_formed ps (suc n) m k w (steps_on {m' = m'} {h = h} {p = p} {a = a} s i e r) =
-    runs_keep_well_formed ps n m' k (steps_keep_well_formed p a h.row m m' w e) r
+runs_keep_well_formed order ps n m _ w stays = w
+runs_keep_well_formed order ps (suc n) m k w (steps_on {m' = m'} {h = h} {p = p} {a = a} s i e r) =
+    runs_keep_well_formed order ps n m' k (steps_keep_well_formed p a h.row m m' w e) r
 
 pub runs_reach_their_end : RunsReachTheirEnd
-runs_reach_their_end ps n m _ (converges z) = stays
-runs_reach_their_end ps _ m _ (is_bounded s) = stays
-runs_reach_their_end ps _ m _ (is_stopped s a e) = stays
-runs_reach_their_end ps (suc n) m _ (goes_on {m' = m'} {c = c} s k e r) = steps_on s k e (runs_reach_their_end ps n m' c r)
+runs_reach_their_end order ps n m _ (converges z) = stays
+runs_reach_their_end order ps _ m _ (is_bounded s) = stays
+runs_reach_their_end order ps _ m _ (is_stopped s a e) = stays
+runs_reach_their_end order ps (suc n) m _ (goes_on {m' = m'} {c = c} s k e r) = steps_on s k e (runs_reach_their_end order ps n m' c r)

@@ -8,6 +8,7 @@ use Rattle.pdll_syntax.specs.declared.file.Decl.{Decl}
 use Rattle.pdll_syntax.specs.declared.file.Decl.TheVariants as decl
 use Rattle.pdll_syntax.specs.declared.file.PatternDecl.{PatternDecl}
 use Rattle.rewrite_model.specs.declared.run.Hit.{Hit}
+use Rattle.rewrite_model.specs.declared.run.Order.{Order}
 use Rattle.rewrite_model.specs.declared.run.Ending.TheVariants.{Converged}
 use Rattle.rewrite_model.specs.Pattern.{Expr, the, result, only_result, Demand, has_parts, has_type, new_operation, Action, makes, Pattern}
 use Rattle.rewrite_model.specs.Expanding.{expanded}
@@ -31,16 +32,16 @@ AtMostOneAssignment =
 abbrev pub MatchesAreDecided : Type 0
 MatchesAreDecided = (p : Pattern) → IsDetermined p → (rows : List Row) (id : ℕ) → Matches rows p id ⊎ (Matches rows p id → ⊥)
 
--- Of such patterns there is exactly one run from each module with each bound.
+-- Of such patterns there is exactly one run in each order from each module with each bound.
 abbrev pub OneRun : Type 0
 OneRun =
-    (ps : List Pattern) → AreDetermined ps
-    → (n : ℕ) (m : Rows) → (c : Course) × Runs ps n m c × ((d : Course) → Runs ps n m d → d ≡ c)
+    (order : Order) (ps : List Pattern) → AreDetermined ps
+    → (n : ℕ) (m : Rows) → (c : Course) × Runs order ps n m c × ((d : Course) → Runs order ps n m d → d ≡ c)
 
 -- Where a run has converged, no pattern matches at any operation that is left.
 abbrev pub ConvergedRunsMatchNowhere : Type 0
 ConvergedRunsMatchNowhere =
-    (ps : List Pattern) (n : ℕ) (m : Rows) (c : Course) → Runs ps n m c → c.ending ≡ Converged → NoneAmong ps c.rows.rows c.rows.rows
+    (order : Order) (ps : List Pattern) (n : ℕ) (m : Rows) (c : Course) → Runs order ps n m c → c.ending ≡ Converged → NoneAmong ps c.rows.rows c.rows.rows
 
 abbrev pub HasVisibleUses : Rows → Type 0
 HasVisibleUses m = All (HasVisibleOperands m.rows) m.rows
@@ -51,7 +52,7 @@ StepsKeepOperandsVisible = (p : Pattern) (a : List Thing) (id : ℕ) (m n : Rows
 
 -- So it is in the module at the end of a run that begins at such a module.
 abbrev pub RunsKeepOperandsVisible : Type 0
-RunsKeepOperandsVisible = (ps : List Pattern) (n : ℕ) (m : Rows) (c : Course) → HasVisibleUses m → Runs ps n m c → HasVisibleUses c.rows
+RunsKeepOperandsVisible = (order : Order) (ps : List Pattern) (n : ℕ) (m : Rows) (c : Course) → HasVisibleUses m → Runs order ps n m c → HasVisibleUses c.rows
 
 -- All of well-formedness but that operands are visible.
 pub record IsLaidOut (m : Rows) : Type 0 where
@@ -70,11 +71,11 @@ StepsKeepWellFormed = (p : Pattern) (a : List Thing) (id : ℕ) (m n : Rows) →
 
 -- So every module of a run is well-formed that begins at a well-formed one.
 abbrev pub RunsKeepWellFormed : Type 0
-RunsKeepWellFormed = (ps : List Pattern) (n : ℕ) (m k : Rows) → IsWellFormed m → Reaches ps n m k → IsWellFormed k
+RunsKeepWellFormed = (order : Order) (ps : List Pattern) (n : ℕ) (m k : Rows) → IsWellFormed m → Reaches order ps n m k → IsWellFormed k
 
 -- The module at the end of a run is one of its modules.
 abbrev pub RunsReachTheirEnd : Type 0
-RunsReachTheirEnd = (ps : List Pattern) (n : ℕ) (m : Rows) (c : Course) → Runs ps n m c → Reaches ps n m c.rows
+RunsReachTheirEnd = (order : Order) (ps : List Pattern) (n : ℕ) (m : Rows) (c : Course) → Runs order ps n m c → Reaches order ps n m c.rows
 
 -- Each number of a pattern has a place in the file, and so has each number of a declaration by itself.
 abbrev pub NumbersHavePlaces : Type 0

@@ -14,5 +14,4 @@ pub mod Taken
 pub mod Making
 pub mod Step
 pub mod Running
-pub mod LogText
 pub mod Laws

@@ -4,6 +4,8 @@ use Rattle.std.specs.List.{AllByRecursion}
 use Rattle.mlir_tree.specs.declared.row.Row.{Row}
 use Rattle.mlir_tree.specs.declared.rows.Rows.{Rows}
 use Rattle.rewrite_model.specs.declared.run.Hit.{Hit}
+use Rattle.rewrite_model.specs.declared.run.Order.{Order}
+use Rattle.rewrite_model.specs.declared.run.Order.TheVariants.{First, Last}
 use Rattle.rewrite_model.specs.declared.run.BoundKind.TheVariants.{Rewrites}
 use Rattle.rewrite_model.specs.declared.run.Ending.{Ending}
 use Rattle.rewrite_model.specs.declared.run.Ending.TheVariants.{Converged, Bound, Broken}
@@ -41,35 +43,40 @@ after_step t c = record { taken = t ∷ c.taken; ending = c.ending; rows = c.row
 abbrev pub NoneAmong : List Pattern → List Row → List Row → Type 0
 NoneAmong ps all rows = AllByRecursion (λ r. NoneAt ps all r.id) rows
 
--- The first operation in text order at which a pattern matches, with its best pattern.
-pub record IsNext (ps : List Pattern) (rows : List Row) (h : Hit) (p : Pattern) : Type 0 where
+-- The operations that are looked at before one in this order, of those before and those after it in text order.
+abbrev pub ahead : Order → List Row → List Row → List Row
+ahead First before after = before
+ahead Last before after = after
+
+-- The first operation in text order at which a pattern matches, or the last one, with its best pattern.
+pub record IsNext (order : Order) (ps : List Pattern) (rows : List Row) (h : Hit) (p : Pattern) : Type 0 where
   pub before : List Row
   pub row : Row
   pub after : List Row
   pub in_order : rows ≡ before ++ (row ∷ after)
-  pub none_before : NoneAmong ps rows before
+  pub none_ahead : NoneAmong ps rows (ahead order before after)
   pub number : row.id ≡ h.row
   pub best : IsBest ps rows h.row h.pattern p
 
 -- ---- the run
 
--- While fewer than so many steps were taken and a pattern matches somewhere, the first such operation is rewritten by its
--- best pattern.
-pub data Runs (ps : List Pattern) : ℕ → Rows → Course → Type 0 where
-  converges : {n : ℕ} {m : Rows} → NoneAmong ps m.rows m.rows → Runs ps n m (ended Converged m)
-  is_bounded : {m : Rows} {h : Hit} {p : Pattern} → IsNext ps m.rows h p → Runs ps zero m (ended (Bound Rewrites h) m)
+-- While fewer than so many steps were taken and a pattern matches somewhere, the first such operation in text order, or the
+-- last one, is rewritten by its best pattern.
+pub data Runs (order : Order) (ps : List Pattern) : ℕ → Rows → Course → Type 0 where
+  converges : {n : ℕ} {m : Rows} → NoneAmong ps m.rows m.rows → Runs order ps n m (ended Converged m)
+  is_bounded : {m : Rows} {h : Hit} {p : Pattern} → IsNext order ps m.rows h p → Runs order ps zero m (ended (Bound Rewrites h) m)
   is_stopped : {n : ℕ} {m : Rows} {h : Hit} {p : Pattern} {a : List Thing} {e : Stop}
-      → IsNext ps m.rows h p → MatchesBy m.rows p a h.row → step p a h.row m ≡ Err e
-      → Runs ps (suc n) m (ended (ending_by h e) m)
+      → IsNext order ps m.rows h p → MatchesBy m.rows p a h.row → step p a h.row m ≡ Err e
+      → Runs order ps (suc n) m (ended (ending_by h e) m)
   goes_on : {n : ℕ} {m m' : Rows} {h : Hit} {p : Pattern} {a : List Thing} {c : Course}
-      → IsNext ps m.rows h p → MatchesBy m.rows p a h.row → step p a h.row m ≡ Ok m'
-      → Runs ps n m' c
-      → Runs ps (suc n) m (after_step (taken p h m m') c)
+      → IsNext order ps m.rows h p → MatchesBy m.rows p a h.row → step p a h.row m ≡ Ok m'
+      → Runs order ps n m' c
+      → Runs order ps (suc n) m (after_step (taken p h m m') c)
 
 -- The modules of a run: the one that it begins at, and the one after each step.
-pub data Reaches (ps : List Pattern) : ℕ → Rows → Rows → Type 0 where
-  stays : {n : ℕ} {m : Rows} → Reaches ps n m m
+pub data Reaches (order : Order) (ps : List Pattern) : ℕ → Rows → Rows → Type 0 where
+  stays : {n : ℕ} {m : Rows} → Reaches order ps n m m
   steps_on : {n : ℕ} {m m' k : Rows} {h : Hit} {p : Pattern} {a : List Thing}
-      → IsNext ps m.rows h p → MatchesBy m.rows p a h.row → step p a h.row m ≡ Ok m'
-      → Reaches ps n m' k
-      → Reaches ps (suc n) m k
+      → IsNext order ps m.rows h p → MatchesBy m.rows p a h.row → step p a h.row m ≡ Ok m'
+      → Reaches order ps n m' k
+      → Reaches order ps (suc n) m k

@@ -9,7 +9,7 @@ use Rattle.rewrite_model.specs.declared.run.BoundKind.{BoundKind}
 use Rattle.rewrite_model.specs.declared.run.BoundKind.TheVariants.{Rewrites, RowLimit, SlotLimit}
 use Rattle.rewrite_model.specs.declared.run.Ending.{Ending}
 use Rattle.rewrite_model.specs.declared.run.Ending.TheVariants.{Converged, Bound, Broken}
-use Rattle.rewrite_model.specs.LogText.{place_text, break_text, bound_text, ending_line}
+use Rattle.run_model.specs.LogText.{place_text, break_text, bound_text, ending_line}
 use Rattle.run_log.specs.Choosing.{break_of, bound_of}
 
 -- a cause without its numbers

@@ -15,7 +15,7 @@ use Rattle.rewrite_model.specs.declared.run.BoundKind.TheVariants.{Rewrites, Row
 use Rattle.rewrite_model.specs.declared.run.Ending.{Ending}
 use Rattle.rewrite_model.specs.declared.run.Ending.TheVariants.{Converged, Bound, Broken}
 use Rattle.rewrite_model.specs.Taken.{Taken}
-use Rattle.rewrite_model.specs.LogText.{numbers_text, step_line, place_text, break_text, bound_text, ending_line}
+use Rattle.run_model.specs.LogText.{numbers_text, step_line, place_text, break_text, bound_text, ending_line}
 use Rattle.run_log.specs.Written.{AreWords, IsStep, IsBreak, IsEnding}
 use Rattle.run_log.specs.ReadLog.{NoFeed, IsLine}
 use Rattle.run_log.proofs.Lines.{more_numbers}

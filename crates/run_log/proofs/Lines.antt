@@ -5,7 +5,7 @@ use Rattle.std.proofs.lemmas.List.{at_drop_more, at_drop_all}
 use Rattle.mlir_print.specs.Text.{string_text}
 use Rattle.mlir_print.proofs.Lists.{rest_at}
 use Rattle.rewrite_model.specs.Taken.{Taken, step_of}
-use Rattle.rewrite_model.specs.LogText.{numbers_text, step_line, step_lines}
+use Rattle.run_model.specs.LogText.{numbers_text, step_line, step_lines}
 
 -- numbers, each behind a comma
 abbrev pub more_numbers : List ℕ → List ℕ

@@ -7,7 +7,7 @@ use Rattle.rewrite_model.specs.Taken.{IsRising}
 use Rattle.run_log.specs.Cursor.{At, good, Takes, EndsNumber, EndsNumbers}
 use Rattle.run_log.specs.Written.{AreWords}
 use Rattle.std.proofs.lemmas.Bool.Decides.{nat_tests}
-use Rattle.rewrite_model.specs.LogText.{numbers_text}
+use Rattle.run_model.specs.LogText.{numbers_text}
 use Rattle.run_log.proofs.Lines.{more_numbers}
 use Rattle.run_log.proofs.Pieces.{takes_then, takes_as, joins, number_first, true_false}
 

@@ -13,7 +13,7 @@ use Rattle.rewrite_model.specs.declared.run.BoundKind.{BoundKind}
 use Rattle.rewrite_model.specs.declared.run.Ending.{Ending}
 use Rattle.rewrite_model.specs.declared.run.Ending.TheVariants.{Converged, Bound, Broken}
 use Rattle.rewrite_model.specs.Taken.{Taken}
-use Rattle.rewrite_model.specs.LogText.{numbers_text, step_line, step_lines, place_text, break_text, bound_text, ending_line, header, log_text}
+use Rattle.run_model.specs.LogText.{numbers_text, step_line, step_lines, place_text, break_text, bound_text, ending_line, header, log_text}
 use Rattle.run_log.specs.Choosing.{break_of, bound_of}
 use Rattle.run_log.specs.Cursor.{EndsNumber, EndsNumbers, byte_of}
 use Rattle.run_log.specs.Written.{AreBytes, AreWords, IsStep, IsBreak, IsEnding}

@@ -5,7 +5,7 @@ use Rattle.std.specs.List.{concat, AllByRecursion}
 use Rattle.rewrite_model.specs.declared.run.Ending.{Ending}
 use Rattle.rewrite_model.specs.declared.run.Ending.TheVariants.{Converged, Bound, Broken}
 use Rattle.rewrite_model.specs.Taken.{Taken}
-use Rattle.rewrite_model.specs.LogText.{step_line, step_lines, ending_line, header, log_text}
+use Rattle.run_model.specs.LogText.{step_line, step_lines, ending_line, header, log_text}
 use Rattle.run_log.specs.Cursor.{At, good, Takes}
 use Rattle.run_log.specs.Written.{IsStep, IsEnding}
 use Rattle.run_log.specs.ReadLog.{AreSteps, IsLogOf, NoLog, IsFront, NoFeed, IsLine, IsBadLine}

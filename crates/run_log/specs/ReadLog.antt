@@ -5,7 +5,7 @@ use Rattle.mlir_tree.specs.declared.refusal.Refusal.{Refusal}
 use Rattle.mlir_tree.specs.declared.refusal.Refusal.TheVariants.{Fault, NoMemory}
 use Rattle.rewrite_model.specs.declared.run.Ending.{Ending}
 use Rattle.rewrite_model.specs.Taken.{Taken}
-use Rattle.rewrite_model.specs.LogText.{log_text}
+use Rattle.run_model.specs.LogText.{log_text}
 use Rattle.run_log.specs.declared.fault.LogFault.{LogFault}
 use Rattle.run_log.specs.declared.fault.LogFault.TheVariants.{BadLine}
 use Rattle.run_log.specs.Written.{IsStep, IsEnding}

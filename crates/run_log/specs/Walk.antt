@@ -1,7 +1,7 @@
 -- What is known when all lines of steps are read.
 use Rattle.std.specs.Prelude.{◌≡◌, ℕ, ◌+◌, true, false, List, ◌++◌, length, slice_index}
 use Rattle.rewrite_model.specs.Taken.{Taken}
-use Rattle.rewrite_model.specs.LogText.{step_line, step_lines}
+use Rattle.run_model.specs.LogText.{step_line, step_lines}
 use Rattle.run_log.specs.Cursor.{At}
 use Rattle.run_log.specs.Written.{IsStep}
 use Rattle.run_log.specs.ReadLog.{AreSteps}

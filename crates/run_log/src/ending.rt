@@ -3,7 +3,7 @@ ghost use Rattle.std.specs.Prelude.{◌≡◌};
 ghost use Rattle.mlir_print.specs.Prints.{Prints};
 ghost use Rattle.rewrite_model.specs.declared.run.Ending.TheVariants as endings;
 ghost use Rattle.rewrite_model.specs.declared.run.Break.TheVariants.{BadUse};
-ghost use Rattle.rewrite_model.specs.LogText as spec;
+ghost use Rattle.run_model.specs.LogText as spec;
 
 use crate::latch::{put, put_number};
 use rewrite_model::run::{BoundKind, Break, Broken, Ending, Hit};

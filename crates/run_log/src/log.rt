@@ -1,12 +1,12 @@
 // The whole log.
 ghost use Rattle.mlir_print.specs.Prints.{Prints};
 ghost use Rattle.rw_outside.specs.Puts.{Puts};
-ghost use Rattle.rewrite_model.specs.LogText as spec;
+ghost use Rattle.run_model.specs.LogText as spec;
 
 use crate::ending::put_ending;
 use crate::latch::{outcome, put};
 use crate::step::put_steps;
-use rewrite_model::run::Run;
+use run_model::run::Run;
 use rw_outside::{Failed, Sink};
 
 fn put_header<S: Sink>(sink: &mut S, ok: &mut bool)

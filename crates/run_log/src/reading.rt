@@ -3,7 +3,7 @@ ghost use Rattle.std.specs.Prelude.{◌≡◌, ◌<◌, ◌^◌, ◌++◌, ◌�
 ghost use Rattle.std.specs.List.{flat_map};
 ghost use Rattle.mlir_print.specs.Text.{byte_text, string_text};
 ghost use Rattle.rewrite_model.specs.Taken.{Taken, IsRising};
-ghost use Rattle.rewrite_model.specs.LogText.{numbers_text, step_line};
+ghost use Rattle.run_model.specs.LogText.{numbers_text, step_line};
 ghost use Rattle.run_log.specs.Cursor.{Takes, good, EndsNumbers};
 ghost use Rattle.run_log.specs.Written.{AreBytes, AreWords, IsStep};
 ghost use Rattle.run_log.specs.Reading.{TakesNumbers};
@@ -11,7 +11,7 @@ ghost use Rattle.run_log.specs.Reading.{TakesNumbers};
 use crate::cursor::Cursor;
 use mlir_tree::row::IdList;
 use mlir_tree::text::Text;
-use rewrite_model::run::StepRec;
+use run_model::run::StepRec;
 use shared_text::SharedText;
 use sqlite_items::Items;
 use std::alloc::{AllocError, Global};

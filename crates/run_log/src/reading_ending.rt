@@ -7,7 +7,7 @@ ghost use Rattle.rewrite_model.specs.declared.run.BoundKind.{BoundKind as KindDa
 ghost use Rattle.rewrite_model.specs.declared.run.Ending.{Ending as EndingData};
 ghost use Rattle.rewrite_model.specs.declared.run.Ending.TheVariants as endings;
 ghost use Rattle.rewrite_model.specs.declared.run.Break.TheVariants.{BadUse};
-ghost use Rattle.rewrite_model.specs.LogText.{place_text, break_text, bound_text, ending_line};
+ghost use Rattle.run_model.specs.LogText.{place_text, break_text, bound_text, ending_line};
 ghost use Rattle.run_log.specs.Cursor.{Takes, good, EndsNumber};
 ghost use Rattle.run_log.specs.Written.{IsBreak, IsEnding};
 ghost use Rattle.run_log.specs.Choosing as choosing;

@@ -2,10 +2,10 @@
 ghost use Rattle.std.specs.Prelude.{decimal, codes, ◌++◌};
 ghost use Rattle.std.specs.List.{flat_map};
 ghost use Rattle.mlir_print.specs.Prints.{Prints};
-ghost use Rattle.rewrite_model.specs.LogText.{numbers_text, step_line, step_lines};
+ghost use Rattle.run_model.specs.LogText.{numbers_text, step_line, step_lines};
 
 use crate::latch::{put, put_number, put_string};
-use rewrite_model::run::StepRec;
+use run_model::run::StepRec;
 use rw_outside::Sink;
 
 // Puts each number behind a comma.

@@ -2,7 +2,7 @@
 ghost use Rattle.std.specs.Prelude.{◌≡◌, ◌≤◌, true, List, length, IfOk, IfErr};
 ghost use Rattle.rewrite_model.specs.declared.run.Ending.{Ending};
 ghost use Rattle.rewrite_model.specs.Taken.{Taken};
-ghost use Rattle.rewrite_model.specs.LogText.{log_text};
+ghost use Rattle.run_model.specs.LogText.{log_text};
 ghost use Rattle.run_log.specs.Walk.{EndsWalk};
 ghost use Rattle.run_log.specs.ReadLog.{IsLogOf, IsFault};
 
@@ -11,7 +11,7 @@ use crate::fault::LogFault;
 use crate::reading::step;
 use crate::reading_ending::ending;
 use mlir_tree::refusal::Refusal;
-use rewrite_model::run::{Run, StepList};
+use run_model::run::{Run, StepList};
 use sqlite_items::Items;
 use std::alloc::{AllocError, Global};
 

@@ -11,8 +11,8 @@ abbrev pub invariant-loop-taken : goal.invariant-loop-taken
 invariant-loop-taken l = record {
   well_formed : IsWellFormed l.rows;
   index : Indexes l.index l.rows.rows;
-  runs : (c : Course) → Runs (map pattern_of l.patterns) l.left l.rows c → Runs (map pattern_of l.patterns) l.fn.bound l.fn.rows (behind l.taken c);
-  reaches : (k : Rows) → Reaches (map pattern_of l.patterns) l.left l.rows k → Reaches (map pattern_of l.patterns) l.fn.bound l.fn.rows k;
+  runs : (c : Course) → Runs l.order (map pattern_of l.patterns) l.left l.rows c → Runs l.order (map pattern_of l.patterns) l.fn.bound l.fn.rows (behind l.taken c);
+  reaches : (k : Rows) → Reaches l.order (map pattern_of l.patterns) l.left l.rows k → Reaches l.order (map pattern_of l.patterns) l.fn.bound l.fn.rows k;
 }
 
 abbrev pub decreases-loop-taken : goal.decreases-loop-taken

@@ -13,7 +13,7 @@ returns-in_err-number_of-clause-reached c = stays
 
 pub returns-then-left-eq0-clause-turn : goal.returns-then-left-eq0-clause-turn
 returns-then-left-eq0-clause-turn c =
-    (refl, bounded_here (map pattern_of c.args.patterns.now) c.args.rows.now c.args.left c.in_ok-number_of.field-0 c.args.row c.args.found.now c.if-left-eq0.true c.in_ok-number_of.ensures c.requires.found)
+    (refl, bounded_here c.args.order (map pattern_of c.args.patterns.now) c.args.rows.now c.args.left c.in_ok-number_of.field-0 c.args.row c.args.found.now c.if-left-eq0.true c.in_ok-number_of.ensures c.requires.found)
 
 pub returns-then-left-eq0-clause-reached : goal.returns-then-left-eq0-clause-reached
 returns-then-left-eq0-clause-reached c = stays
@@ -27,7 +27,7 @@ returns-in-Ok-clause-turn c =
     let f = c.args.found.now in (
       omega (arith, c.if-left-eq0.false),
       (
-        goes (map pattern_of c.args.patterns.now) c.args.rows.now c.advance.new.rows c.in_ok-number_of.field-0 c.args.row (pattern_of q) f c.in-Ok.told
+        goes c.args.order (map pattern_of c.args.patterns.now) c.args.rows.now c.advance.new.rows c.in_ok-number_of.field-0 c.args.row (pattern_of q) f c.in-Ok.told
             c.in_ok-number_of.ensures
             (at_place c.args.patterns.now f.at q (inside c.args.patterns.now f.at c.requires.found.0 c.requires.found.2.declared) ∙ ap (λ x. Some (pattern_of x)) (sym c.index-patterns-found.is))
             c.requires.found
@@ -41,8 +41,8 @@ pub returns-in-Ok-clause-reached : goal.returns-in-Ok-clause-reached
 returns-in-Ok-clause-reached c =
     let q = c.index-patterns-found.result in
     let f = c.args.found.now in
-    reached (map pattern_of c.args.patterns.now) c.args.left c.args.rows.now c.advance.new.rows c.in-Ok.told (omega (arith, c.if-left-eq0.false))
-    (goes (map pattern_of c.args.patterns.now) c.args.rows.now c.advance.new.rows c.in_ok-number_of.field-0 c.args.row (pattern_of q) f c.in-Ok.told
+    reached c.args.order (map pattern_of c.args.patterns.now) c.args.left c.args.rows.now c.advance.new.rows c.in-Ok.told (omega (arith, c.if-left-eq0.false))
+    (goes c.args.order (map pattern_of c.args.patterns.now) c.args.rows.now c.advance.new.rows c.in_ok-number_of.field-0 c.args.row (pattern_of q) f c.in-Ok.told
     c.in_ok-number_of.ensures
     (at_place c.args.patterns.now f.at q (inside c.args.patterns.now f.at c.requires.found.0 c.requires.found.2.declared) ∙ ap (λ x. Some (pattern_of x)) (sym c.index-patterns-found.is))
     c.requires.found
@@ -54,8 +54,8 @@ returns-in-Err-Fault-clause-turn c =
     let q = c.index-patterns-found.result in
     let f = c.args.found.now in (
       c.in-Err-Fault.ensures.stays,
-      subst (λ e. Runs (map pattern_of c.args.patterns.now) c.args.left c.args.rows.now (ended e c.args.rows.now)) (sym c.ending_by.ensures)
-          (stops (map pattern_of c.args.patterns.now) c.args.rows.now c.args.left c.in_ok-number_of.field-0 c.args.row (pattern_of q) f (stop_of c.in-Err-Fault.stop)
+      subst (λ e. Runs c.args.order (map pattern_of c.args.patterns.now) c.args.left c.args.rows.now (ended e c.args.rows.now)) (sym c.ending_by.ensures)
+          (stops c.args.order (map pattern_of c.args.patterns.now) c.args.rows.now c.args.left c.in_ok-number_of.field-0 c.args.row (pattern_of q) f (stop_of c.in-Err-Fault.stop)
           (omega (arith, c.if-left-eq0.false))
           c.in_ok-number_of.ensures
           (at_place c.args.patterns.now f.at q (inside c.args.patterns.now f.at c.requires.found.0 c.requires.found.2.declared) ∙ ap (λ x. Some (pattern_of x)) (sym c.index-patterns-found.is))
@@ -64,7 +64,7 @@ returns-in-Err-Fault-clause-turn c =
     )
 
 pub returns-in-Err-Fault-clause-reached : goal.returns-in-Err-Fault-clause-reached
-returns-in-Err-Fault-clause-reached c = same_rows (map pattern_of c.args.patterns.now) c.args.left c.args.rows.now c.advance.new.rows c.in-Err-Fault.ensures.stays
+returns-in-Err-Fault-clause-reached c = same_rows c.args.order (map pattern_of c.args.patterns.now) c.args.left c.args.rows.now c.advance.new.rows c.in-Err-Fault.ensures.stays
 
 pub returns-in-Err-NoMemory-clause-reached : goal.returns-in-Err-NoMemory-clause-reached
-returns-in-Err-NoMemory-clause-reached c = same_rows (map pattern_of c.args.patterns.now) c.args.left c.args.rows.now c.advance.new.rows c.in-Err-NoMemory.ensures.stays
+returns-in-Err-NoMemory-clause-reached c = same_rows c.args.order (map pattern_of c.args.patterns.now) c.args.left c.args.rows.now c.advance.new.rows c.in-Err-NoMemory.ensures.stays

@@ -1,5 +1,5 @@
 use Rattle.std.proofs.lemmas.Result.{err_from_is_err_and}
-use Rattle.rewrite_model.specs.LogText.{log_text}
+use Rattle.run_model.specs.LogText.{log_text}
 use Rattle.pdllrw_command.proofs.Gathered.{gathering_fails, flushes}
 use Rattle.pdllrw_command.proofs.whole.gather_log.Goals as goal
 

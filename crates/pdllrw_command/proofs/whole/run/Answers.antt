@@ -1,7 +1,7 @@
 use Rattle.std.proofs.Common.{◌≡◌, ℕ, List, Option, map, Err, string_bytes, refl, sym, ap, subst}
 use Rattle.std.specs.Prelude.{IfSome}
 use Rattle.mlir_print.specs.ModuleText.{module_text}
-use Rattle.rewrite_model.specs.LogText.{log_text}
+use Rattle.run_model.specs.LogText.{log_text}
 use Rattle.rewrite_model.specs.Expanding.{patterns}
 use Rattle.greedy_driver.specs.Course.{course_of}
 use Rattle.pdllrw_command.specs.Accepted.{AcceptsPatterns, AcceptsModule}

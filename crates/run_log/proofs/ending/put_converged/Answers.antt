@@ -1,4 +1,4 @@
-use Rattle.rewrite_model.specs.LogText.{ending_line}
+use Rattle.run_model.specs.LogText.{ending_line}
 use Rattle.mlir_print.proofs.Printing.{prints_then}
 use Rattle.run_log.proofs.ending.put_converged.Goals as goal
 

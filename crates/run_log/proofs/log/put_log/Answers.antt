@@ -2,7 +2,7 @@ use Rattle.std.proofs.Common.{ap, refl, sym, subst}
 use Rattle.std.specs.Prelude.{Result}
 use Rattle.rw_outside.specs.Puts.{Puts}
 use Rattle.rw_outside.specs.declared.sink.Failed.{Failed}
-use Rattle.rewrite_model.specs.LogText.{log_text, step_lines, ending_line}
+use Rattle.run_model.specs.LogText.{log_text, step_lines, ending_line}
 use Rattle.mlir_print.proofs.Printing.{prints_then, prints_as}
 use Rattle.run_log.proofs.log.put_log.Goals as goal
 

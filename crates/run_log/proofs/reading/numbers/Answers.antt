@@ -1,7 +1,7 @@
 use Rattle.std.proofs.Common.{◌≡◌, ◌∙◌, ◌++◌, ◌∷◌, sym, ap, subst, decimal}
 use Rattle.std.specs.Prelude.{slice_index, IfOk}
 use Rattle.rewrite_model.specs.Taken.{IsRising}
-use Rattle.rewrite_model.specs.LogText.{numbers_text}
+use Rattle.run_model.specs.LogText.{numbers_text}
 use Rattle.run_log.specs.Cursor.{good}
 use Rattle.run_log.specs.Written.{AreWords}
 use Rattle.run_log.proofs.Lines.{more_numbers}

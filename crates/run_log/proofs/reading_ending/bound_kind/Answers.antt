@@ -1,5 +1,5 @@
 use Rattle.std.proofs.Common.{◌∙◌, ◌++◌, ap, sym}
-use Rattle.rewrite_model.specs.LogText.{bound_text}
+use Rattle.run_model.specs.LogText.{bound_text}
 use Rattle.run_log.specs.Choosing.{bound_of}
 use Rattle.run_log.specs.Cursor.{good}
 use Rattle.run_log.proofs.Endings.{bound_front}

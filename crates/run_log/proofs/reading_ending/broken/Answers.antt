@@ -1,5 +1,5 @@
 use Rattle.std.proofs.Common.{◌∙◌, ap, refl}
-use Rattle.rewrite_model.specs.LogText.{ending_line}
+use Rattle.run_model.specs.LogText.{ending_line}
 use Rattle.run_log.specs.Cursor.{good}
 use Rattle.run_log.proofs.Pieces.{takes_then}
 use Rattle.run_log.proofs.Endings.{broken_behind, broken_same}

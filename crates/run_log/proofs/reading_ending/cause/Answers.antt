@@ -1,6 +1,6 @@
 use Rattle.std.proofs.Common.{◌∙◌, ◌++◌, ap, sym, subst}
 use Rattle.rewrite_model.specs.declared.run.Break.TheVariants.{Gone, Count, Types, Top, NativeRefused}
-use Rattle.rewrite_model.specs.LogText.{break_text}
+use Rattle.run_model.specs.LogText.{break_text}
 use Rattle.run_log.specs.Choosing.{break_of}
 use Rattle.run_log.specs.Cursor.{good}
 use Rattle.run_log.specs.Written.{IsBreak}

@@ -1,6 +1,6 @@
 use Rattle.std.proofs.Common.{◌∙◌, ◌++◌, ap, sym, subst}
 use Rattle.std.specs.Prelude.{slice_index}
-use Rattle.rewrite_model.specs.LogText.{ending_line}
+use Rattle.run_model.specs.LogText.{ending_line}
 use Rattle.run_log.specs.Cursor.{good}
 use Rattle.run_log.specs.Written.{IsEnding}
 use Rattle.run_log.proofs.Endings.{is_converged, is_bound, is_broken}

@@ -1,7 +1,7 @@
 use Rattle.std.proofs.Common.{decimal, ap, ◌∙◌}
 use Rattle.mlir_print.specs.Text.{string_text}
 use Rattle.rewrite_model.specs.Taken.{step_of}
-use Rattle.rewrite_model.specs.LogText.{numbers_text, step_line}
+use Rattle.run_model.specs.LogText.{numbers_text, step_line}
 use Rattle.mlir_print.proofs.Printing.{prints_then, prints_as}
 use Rattle.run_log.proofs.Lines.{step_pieces}
 use Rattle.run_log.proofs.step.put_step.Goals as goal

@@ -1,7 +1,7 @@
 use Rattle.std.proofs.Common.{Bool, ◌+◌, drop}
 use Rattle.rw_outside.specs.Puts.{SinkState}
 use Rattle.mlir_print.specs.Prints.{Prints}
-use Rattle.rewrite_model.specs.LogText.{step_lines}
+use Rattle.run_model.specs.LogText.{step_lines}
 use Rattle.run_log.proofs.step.put_steps.Given as goal
 
 -- whatever puts the rest from here on puts all from the start

@@ -1,6 +1,6 @@
 use Rattle.std.proofs.Common.{◌≡◌, ◌∙◌, sym, ap, true, false, length}
 use Rattle.std.specs.Prelude.{◌==◌}
-use Rattle.rewrite_model.specs.LogText.{header}
+use Rattle.run_model.specs.LogText.{header}
 use Rattle.run_log.specs.Cursor.{good}
 use Rattle.run_log.proofs.Pieces.{true_false}
 use Rattle.run_log.proofs.Walks.{no_header, no_end, goes_over, is_log, empty, not_empty, few_of}

@@ -1,5 +1,5 @@
 use Rattle.std.proofs.Common.{◌≡◌, ◌+◌, ◌∙◌, sym, ap, subst, true}
-use Rattle.rewrite_model.specs.LogText.{step_line}
+use Rattle.run_model.specs.LogText.{step_line}
 use Rattle.run_log.specs.Cursor.{Takes}
 use Rattle.run_log.specs.Walk.{WalksTo}
 use Rattle.run_log.proofs.Pieces.{true_false}

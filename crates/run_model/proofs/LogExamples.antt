@@ -7,7 +7,7 @@ use Rattle.rewrite_model.specs.declared.run.Hit.{Hit}
 use Rattle.rewrite_model.specs.declared.run.Break.TheVariants.{NativeRefused, BadUse}
 use Rattle.rewrite_model.specs.declared.run.BoundKind.TheVariants.{Rewrites, SlotLimit}
 use Rattle.rewrite_model.specs.declared.run.Ending.TheVariants.{Converged, Bound, Broken}
-use Rattle.rewrite_model.specs.LogText.{header, step_line, step_lines, ending_line, log_text}
+use Rattle.run_model.specs.LogText.{header, step_line, step_lines, ending_line, log_text}
 
 abbrev hit : ℕ → ℕ → Hit
 hit k id = record { pattern = k; row = id }

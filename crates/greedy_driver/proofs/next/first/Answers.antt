@@ -1,10 +1,11 @@
 use Rattle.std.proofs.Common.{◌+◌, ◌∷◌, ◌++◌, map, length, sym, ap, subst, ◌∙◌}
 use Rattle.std.specs.Prelude.{take, drop}
+use Rattle.rewrite_model.specs.declared.run.Order.TheVariants.{First}
 use Rattle.rewrite_model.specs.Matching.{NoneAt}
 use Rattle.pdll_patterns.specs.View.{pattern_of}
 use Rattle.greedy_driver.specs.Found.{BestOf}
-use Rattle.greedy_driver.proofs.Best.{none_at, first, one_more, cut}
-use Rattle.greedy_driver.proofs.next.next.Goals as goal
+use Rattle.greedy_driver.proofs.Best.{none_at, next_here, one_more, cut}
+use Rattle.greedy_driver.proofs.next.first.Goals as goal
 
 -- src/next.rt:105:13
 pub returns-in-Some : goal.returns-in-Some
@@ -12,7 +13,7 @@ returns-in-Some c =
     let i = c.loop-row.row-index in
     let rows = c.args.rows.now in
     let r = c.row-item.result in
-    first c.args.patterns.now rows (take i rows) (drop (i + 1) rows) r c.in-Some.found
+    next_here First c.args.patterns.now rows (take i rows) (drop (i + 1) rows) r c.in-Some.found
     (cut rows i r c.loop-row-test.true ∙ ap (λ s. take i rows ++ (s ∷ drop (i + 1) rows)) (sym c.row-item.is))
     c.loop-row.invariant
     (subst (λ o. BestOf (map pattern_of c.args.patterns.now) rows r.id (length c.args.patterns.now) o) c.in-Some.is c.in_ok-found.ensures)
