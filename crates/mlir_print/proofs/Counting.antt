@@ -108,12 +108,12 @@ last_or_before (y ∷ kept) e x (suc i) p = elim (last_or_before kept e x i p) [
 
 pub keep_more : (rows : List Row) (n : ℕ) (kept : List RowNumbers) (e : RowNumbers) → AreKept rows n kept → IsKept rows n e → AreKept rows (suc n) (kept ++ (e ∷ []))
 keep_more rows n kept e are is = (
-    length-append kept (e ∷ []) ∙ (let s : length kept + 1 ≡ suc n = omega (arith, are.0) in s),
-    λ place x p. elim (last_or_before kept e x place p) [
-      | inl q ↦ are.1 place x q
-      | inr q ↦ subst (λ y. IsKept rows place y) q.1 (subst (λ k. IsKept rows k e) (sym (q.0 ∙ are.0)) is)
-    ],
-  )
+  length-append kept (e ∷ []) ∙ (let s : length kept + 1 ≡ suc n = omega (arith, are.0) in s),
+  λ place x p. elim (last_or_before kept e x place p) [
+    | inl q ↦ are.1 place x q
+    | inr q ↦ subst (λ y. IsKept rows place y) q.1 (subst (λ k. IsKept rows k e) (sym (q.0 ∙ are.0)) is)
+  ],
+)
 
 -- ---- the numbers are those of the rows
 

@@ -23,8 +23,8 @@ use mlir_tree::rows::Rows;
 use pdll_syntax::fault::PatKind;
 use rewrite_model::laws::runs_keep_well_formed;
 use rewrite_model::run::{Ending, Order};
-use run_model::run::Run;
 use run_log::put_log;
+use run_model::run::Run;
 use rw_outside::{BufferedSink, Failed, Host, Sink, put_all};
 use std::alloc::{AllocError, Global};
 

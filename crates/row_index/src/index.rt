@@ -35,7 +35,11 @@ fn dense_len(rows: &[Row]) -> Option<usize>
             len = id + 1;
         }
     }
-    if len / 4 <= rows.len() { Some(len) } else { None }
+    if len / 4 <= rows.len() {
+        Some(len)
+    } else {
+        None
+    }
 }
 
 // The places of rows whose numbers are below the length.

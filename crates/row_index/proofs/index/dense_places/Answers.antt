@@ -17,10 +17,10 @@ pub loop-at-preserved : goal.loop-at-preserved
 loop-at-preserved c =
     let few : (get_or c.args.rows.now (c.loop-at.at - 1) c.index-rows-at.result).id < length c.loop-at.slots.items
     = subst (λ n. (get_or c.args.rows.now (c.loop-at.at - 1) c.index-rows-at.result).id < n) (sym c.loop-at.invariant.long)
-      (c.requires (c.loop-at.at - 1) c.index-rows-at.result (omega (arith, c.loop-at.invariant.within, c.loop-at-test.true))) in
+    (c.requires (c.loop-at.at - 1) c.index-rows-at.result (omega (arith, c.loop-at.invariant.within, c.loop-at-test.true))) in
     record {
       known = slots_more c.args.rows.now c.loop-at.slots.items c.loop-at.at (c.loop-at.at - 1) c.index-rows-at.result
-      (omega (arith, c.loop-at-test.true)) (omega (arith, c.loop-at.invariant.within, c.loop-at-test.true)) few c.loop-at.invariant.known;
+          (omega (arith, c.loop-at-test.true)) (omega (arith, c.loop-at.invariant.within, c.loop-at-test.true)) few c.loop-at.invariant.known;
       long = length-set _ _ _ ∙ c.loop-at.invariant.long;
       within = omega (arith, c.loop-at.invariant.within);
     }
