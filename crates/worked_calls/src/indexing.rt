@@ -1,7 +1,7 @@
 //! Calls of `row_index`.
 
-use crate::answers::Answers;
 use crate::resolving::module;
+use call_answers::Answers;
 use mlir_tree::rows::Rows;
 use row_index::index::RowIndex;
 use row_index::well_formed;

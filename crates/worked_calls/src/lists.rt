@@ -1,6 +1,6 @@
 //! Calls of `shared_list`.
 
-use crate::answers::Answers;
+use call_answers::Answers;
 use shared_list::Shared;
 use sqlite_items::Items;
 use std::alloc::{AllocError, Global};

@@ -1,7 +1,6 @@
-//! Calls of the libraries, each with what it answers.
+//! Calls of the libraries of modules and natives, each with what it answers.
 #![tactic(auto)]
 
-mod answers;
 mod indexing;
 mod lists;
 mod natives;
@@ -10,12 +9,10 @@ mod printing;
 mod reading;
 mod recent;
 mod resolving;
-mod spelling;
-mod syntax;
 mod texts;
 mod tree;
 
-use crate::answers::Answers;
+use call_answers::Answers;
 use rw_outside::{StreamSink, put_all};
 use std::alloc::AllocError;
 use std::process::ExitCode;
@@ -35,16 +32,10 @@ fn tell_modules(answers: &mut Answers) -> Result<(), AllocError> {
     indexing::tell(answers)
 }
 
-fn tell_patterns(answers: &mut Answers) -> Result<(), AllocError> {
-    natives::tell(answers)?;
-    spelling::tell(answers)?;
-    syntax::tell(answers)
-}
-
 fn tell_all(answers: &mut Answers) -> Result<(), AllocError> {
     tell_data(answers)?;
     tell_modules(answers)?;
-    tell_patterns(answers)
+    natives::tell(answers)
 }
 
 fn main(rt: HostRuntime) -> ExitCode {

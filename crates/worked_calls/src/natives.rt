@@ -1,7 +1,7 @@
 //! Calls of `native_set`.
 
-use crate::answers::Answers;
 use crate::reading::attr;
+use call_answers::Answers;
 use mlir_print::attr_text;
 use mlir_tree::attr::Attr;
 use mlir_tree::refusal::Refusal;

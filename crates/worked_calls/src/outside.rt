@@ -1,6 +1,6 @@
 //! Calls of `rw_outside`: files that are taken, and bytes that are put.
 
-use crate::answers::Answers;
+use call_answers::Answers;
 use rw_outside::{
     BufferedSink, Failed, FileHost, Host, MemHost, MemSink, Sink, StreamSink, SureHost, SureSink,
     put_all, take_all,

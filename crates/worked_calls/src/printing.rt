@@ -1,8 +1,8 @@
 //! Calls of `mlir_print`.
 
-use crate::answers::Answers;
 use crate::reading::{attr, ty};
 use crate::resolving::module;
+use call_answers::Answers;
 use mlir_print::{
     attr_text, number, print_attr, print_rows, print_string, print_ty, string_text, ty_text,
 };

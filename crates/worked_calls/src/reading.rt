@@ -1,7 +1,7 @@
 //! Calls of `mlir_attributes`. Here are the types and attributes that the other calls are made on; a text that spells none
 //! ends the program, as want of memory does.
 
-use crate::answers::Answers;
+use call_answers::Answers;
 use mlir_attributes::{parse_attr, parse_ty};
 use mlir_tree::attr::Attr;
 use mlir_tree::ty::Ty;

@@ -1,7 +1,7 @@
 //! Calls of `recent_values`.
 
-use crate::answers::Answers;
 use crate::reading::{attr, ty};
+use call_answers::Answers;
 use mlir_tree::attr::{Attr, equal_dicts};
 use mlir_tree::text::Text;
 use mlir_tree::ty::{Ty, equal_tys};

@@ -3,7 +3,7 @@
 ghost use Rattle.std.specs.Prelude.{IfOk};
 ghost use Rattle.mlir_tree.specs.WellFormed.{IsWellFormed};
 
-use crate::answers::Answers;
+use call_answers::Answers;
 use mlir_parse::parse_module;
 use mlir_resolve::resolve;
 use mlir_tree::rows::Rows;

@@ -1,6 +1,6 @@
 //! Calls of `shared_text`, at 22 bytes and at 23.
 
-use crate::answers::Answers;
+use call_answers::Answers;
 use shared_text::SharedText;
 use sqlite_items::Items;
 use std::alloc::AllocError;

@@ -5,7 +5,7 @@ mod rows;
 mod types;
 mod values;
 
-use crate::answers::Answers;
+use call_answers::Answers;
 use std::alloc::AllocError;
 
 pub fn tell(answers: &mut Answers) -> Result<(), AllocError> {

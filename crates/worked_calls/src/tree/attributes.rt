@@ -1,7 +1,7 @@
 //! Attributes: copies, their order, and keys.
 
-use crate::answers::Answers;
 use crate::reading::attr;
+use call_answers::Answers;
 use std::alloc::AllocError;
 use std::collections::HashSet;
 

@@ -1,8 +1,8 @@
 //! Rows of a module: copies, and what is equal.
 
-use crate::answers::Answers;
 use crate::reading::ty;
 use crate::resolving::module;
+use call_answers::Answers;
 use mlir_tree::content::Content;
 use mlir_tree::row::{RegionList, Row};
 use mlir_tree::rows::{Rows, copy_rows, equal_rows};

@@ -1,7 +1,7 @@
 //! Types: copies, their order, the integers that they hold, and keys.
 
-use crate::answers::Answers;
 use crate::reading::ty;
+use call_answers::Answers;
 use mlir_tree::number::Number;
 use std::alloc::AllocError;
 use std::collections::HashSet;

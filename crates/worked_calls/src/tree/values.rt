@@ -1,6 +1,6 @@
 //! Lists of values, of up to two and of more.
 
-use crate::answers::Answers;
+use call_answers::Answers;
 use mlir_tree::value::{Val, ValList};
 use sqlite_items::Items;
 use std::alloc::AllocError;

@@ -1,6 +1,6 @@
 //! Calls of `pdll_parser`.
 
-use crate::answers::Answers;
+use call_answers::Answers;
 use pdll_parser::parse_patterns;
 use pdll_syntax::file::PatFile;
 use std::alloc::{AllocError, Global};

@@ -1,4 +1,5 @@
-//! The lines that are told: a call and its answer.
+//! The lines that a program of calls tells: a call and its answer.
+#![tactic(auto)]
 
 use std::alloc::{AllocError, Global};
 use std::fmt::Debug;

@@ -1,7 +1,7 @@
 //! Calls of `pdll_syntax`.
 
-use crate::answers::Answers;
 use crate::spelling::patterns;
+use call_answers::Answers;
 use pdll_syntax::expr::Expr;
 use pdll_syntax::fault::PatKind;
 use pdll_syntax::file::{Decl, PatFile};
