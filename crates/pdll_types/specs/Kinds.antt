@@ -72,11 +72,11 @@ abbrev pub is_written : Option Kind → Option Kind → Bool
 is_written None given = not (holds is_call given)
 is_written (Some k) given = holds (is_taken k) given
 
--- Whether an expression of this kind, where it has one, may stand there. What is asked of roots and of constraints that
--- stand for a call is said elsewhere.
+-- Whether an expression of this kind, where it has one, may stand there. A call that gives nothing stands only as a statement.
+-- What else is asked of roots, and of constraints that stand for a call, is said elsewhere.
 abbrev pub answers : Asked → Option Kind → Bool
 answers anything k = true
-answers root k = true
+answers root k = is_written None k
 answers constraint_call k = true
 answers (written w) k = is_written w k
 answers operand k = holds is_operand k

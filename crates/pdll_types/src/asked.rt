@@ -45,10 +45,9 @@ impl<'a> Asked<'a> {
     {
         match (self, kind) {
             (Asked::Anything, _) => true,
-            (Asked::Root, _) => true,
             (Asked::ConstraintCall, _) => true,
             (Asked::Written(written), _) => is_written(written, kind),
-            (Asked::NotCall, _) => is_written(&None, kind),
+            (Asked::NotCall | Asked::Root, _) => is_written(&None, kind),
             (_, None) => false,
             (Asked::Operand, Some(kind)) => kind.is_operand(),
             (Asked::ResultType, Some(kind)) => kind.is_type_or_types(),
