@@ -1,0 +1,4 @@
+//! Laws: how far the numbers of operations go in a run.
+#![tactic(auto)]
+
+pub mod laws;
