@@ -1,5 +1,5 @@
 -- A pattern with two ranges of operands, and modules on which the checker computes where it matches.
-use Rattle.std.specs.Prelude.{◌≡◌, ℕ, zero, suc, ◌<◌, ◌≤◌, List, [], ◌∷◌, take, slice_get, Option, Some, None, Ok, codes}
+use Rattle.std.specs.Prelude.{◌≡◌, ℕ, zero, suc, ◌<◌, ◌≤◌, false, List, [], ◌∷◌, take, slice_get, Option, Some, None, Ok, codes}
 use Rattle.std.proofs.Common.{◌⊎◌, inl, inr, refl, sym, ap, subst, arith}
 use Rattle.row_index.specs.BadUses.{bad_use}
 use Rattle.mlir_tree.specs.declared.row.Row.{Row}
