@@ -4,7 +4,7 @@ use Rattle.pdll_syntax.specs.declared.stmt.Body.TheVariants.{Braces}
 use Rattle.pdll_syntax.specs.declared.file.Decl.{Decl}
 use Rattle.pdll_syntax.specs.declared.file.Decl.TheVariants.{Pattern}
 use Rattle.pdll_syntax.specs.declared.file.PatFile.{PatFile}
-use Rattle.pdll_syntax.specs.ExprTree.{Expr, expr, name_expr, declare_expr, op_expr, operation, ref, value_ref, value_range_ref, no_exprs, expr_then, no_entries, no_refs, ref_then, no_expr, left_out, written}
+use Rattle.pdll_syntax.specs.ExprTree.{Expr, expr, name_expr, declare_expr, op_expr, operation, ref, value_ref, value_range_ref, type_range_ref, no_exprs, expr_then, no_entries, no_refs, ref_then, no_expr, left_out, written}
 use Rattle.pdll_syntax.specs.StmtTree.{Stmt, stmt, let_stmt, erase_stmt}
 use Rattle.pdll_types.specs.declared.kind.Kind.TheVariants.{Row}
 use Rattle.pdll_types.specs.Kinds.{is_taken}
@@ -42,9 +42,18 @@ own_value = refl
 abbrev range : ℕ → List ℕ → Expr
 range at n = expr at (declare_expr n (ref_then (ref (at + 3) (value_range_ref no_expr)) no_refs))
 
+abbrev type_range : ℕ → List ℕ → Expr
+type_range at n = expr at (declare_expr n (ref_then (ref (at + 3) type_range_ref) no_refs))
+
 -- `op<t.a>(a: ValueRange, b: ValueRange)`
+ranges_of_operands : two_ranges_places [] (pattern (stmt 10 (erase_stmt (expr 16 (op_expr (operation (codes "t.a")
+    (written (expr_then (range 24 (codes "a")) (expr_then (range 39 (codes "b")) no_exprs))) no_entries left_out)))) ∷ []) 56) ≡ []
+unfolding found_in mentions of_pattern of_stmt of_expr of_all_refs kind_of_refs sight_behind words_behind
+ranges_of_operands = refl
+
+-- `op<t.a> -> (a: TypeRange, b: TypeRange)`
 second_range : two_ranges_places [] (pattern (stmt 10 (erase_stmt (expr 16 (op_expr (operation (codes "t.a")
-    (written (expr_then (range 24 (codes "a")) (expr_then (range 39 (codes "b")) no_exprs))) no_entries left_out)))) ∷ []) 56) ≡ 39 ∷ []
+    left_out no_entries (written (expr_then (type_range 28 (codes "a")) (expr_then (type_range 42 (codes "b")) no_exprs))))))) ∷ []) 58) ≡ 42 ∷ []
 unfolding found_in mentions of_pattern of_stmt of_expr of_all_refs kind_of_refs sight_behind words_behind
 second_range = refl
 

@@ -4,7 +4,7 @@ use Rattle.std.specs.Prelude.{ℕ, ◌+◌, Bool, true, false, not, ◌&&◌, �
 use Rattle.pdll_syntax.specs.ExprTree.{Expr, ExprForm, call_expr, declare_expr, Exprs, no_exprs, expr_then, ref, RefForm, named_ref}
 use Rattle.pdll_types.specs.declared.kind.Kind.{Kind}
 use Rattle.pdll_types.specs.declared.section.Section.TheVariants.{Matched}
-use Rattle.pdll_types.specs.Kinds.{Asked, constraint_call, written, answers, holds, is_range}
+use Rattle.pdll_types.specs.Kinds.{Asked, constraint_call, written, result_type, answers, holds, is_range}
 use Rattle.pdll_types.specs.Signatures.{Declared, is_constraint, is_callable, parameters, only_parameter}
 use Rattle.pdll_types.specs.Mentions.{Mention, use_of, listed, one_ref}
 use Rattle.pdll_types.specs.Sight.{Known, Seen, kind_of, form_of, place_of}
@@ -69,6 +69,7 @@ abbrev pub ranges_behind : List Declared → List Known → Bool → Exprs → L
 ranges_behind c s one no_exprs = []
 ranges_behind c s one (expr_then x xs) = where_so (one && is_range_expr c s x) (place_of x) ++ ranges_behind c s (one || is_range_expr c s x) xs
 
+-- Second ranges among result types of a match. Those among operands are told apart by sizes.
 abbrev pub two_ranges_at : List Declared → Seen → Mention → List ℕ
-two_ranges_at c s (listed Matched xs) = ranges_behind c s.sight false xs
+two_ranges_at c s (listed Matched result_type xs) = ranges_behind c s.sight false xs
 two_ranges_at c s m = []

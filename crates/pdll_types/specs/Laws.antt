@@ -5,7 +5,7 @@ use Rattle.rewrite_model.specs.Expanding.{patterns}
 use Rattle.rewrite_model.specs.Determined.{AreDetermined}
 use Rattle.pdll_types.specs.Accepted.{IsAccepted, IsFirstFault}
 
--- In the patterns of an accepted file all is determined by the root, and no list of operands or types has two ranges.
+-- In the patterns of an accepted file all is determined by the root, and no list of types has two ranges.
 abbrev pub AcceptedFilesAreDetermined : Type 0
 AcceptedFilesAreDetermined = (file : PatFile) → IsAccepted file → AreDetermined (patterns file)
 

@@ -27,8 +27,8 @@ pub data Mention : Type 0 where
   heading : Decl → Mention
   -- an expression: the part in which it stands, what is asked of it, the place of its first token, and what it is
   use_of : Section → Asked → ℕ → ExprForm → Mention
-  -- the operands, or the result types, of an operation, behind them
-  listed : Section → Exprs → Mention
+  -- the operands, or the result types, of an operation, by what is asked of each, behind them
+  listed : Section → Asked → Exprs → Mention
   -- a word that declares a variable, which has a value there or not, its place and its name
   word : Section → Bool → ℕ → List ℕ → Mention
   -- refs, and what holds them
@@ -80,7 +80,7 @@ unfoldable mutual
   -- operands or result types
   pub of_list : List Declared → Section → Asked → MaybeExprs → List Mention
   of_list c p a left_out = []
-  of_list c p a (is_listed xs) = of_exprs c p a xs ++ listed p xs ∷ []
+  of_list c p a (is_listed xs) = of_exprs c p a xs ++ listed p a xs ∷ []
 
   pub of_exprs : List Declared → Section → Asked → Exprs → List Mention
   of_exprs c p a no_exprs = []

@@ -236,7 +236,7 @@ fn walk_list<'t>(
         None => Ok(()),
         Some(all) => {
             walk_exprs(alloc, table, walk, section, asked, all.as_slice())?;
-            use_list(alloc, table, walk, section, all.as_slice())
+            use_list(alloc, table, walk, section, asked, all.as_slice())
         }
     }
 }

@@ -2,7 +2,7 @@
 
 ghost use Rattle.pdll_types.specs.Laws.{AcceptedFilesAreDetermined, AcceptedFilesHaveNoFault};
 
-/// In the patterns of an accepted file all is determined by the root, and no list of operands or types has two ranges.
+/// In the patterns of an accepted file all is determined by the root, and no list of types has two ranges.
 pub fn accepted_files_are_determined()
     ensures { AcceptedFilesAreDetermined }
 {}

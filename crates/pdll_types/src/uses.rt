@@ -288,7 +288,7 @@ pub fn use_members<'a>(
     Ok(asked)
 }
 
-/// The first fault so far, with second ranges in a list of a match.
+/// The first fault so far, with second ranges in a list of result types of a match.
 #[tactic(auto, using(crate::proofs::Noting::noted_places))]
 fn ranges_noted(
     alloc: Global,
@@ -318,11 +318,12 @@ pub fn use_list(
     table: &Table<'_>,
     walk: &mut Walk<'_>,
     section: Section,
+    asked: Asked<'_>,
     all: &[Expr],
 ) -> Result<(), AllocError>
-    ensures { OnOk result (walk.new ≡ step table.now (listed section (exprs all.now)) walk.old) }
+    ensures { OnOk result (walk.new ≡ step table.now (listed section (asked_of asked.entry) (exprs all.now)) walk.old) }
 {
-    if let Section::Matched = section {
+    if let (Section::Matched, Asked::ResultType) = (section, asked) {
         walk.least = ranges_noted(alloc, table, walk, all)?;
     }
     Ok(())

@@ -84,7 +84,7 @@ fuse_told (suc (suc (suc (suc (suc (suc (suc x))))))) l = absurd (omega (arith, 
 abbrev fuse_determined : IsDetermined fuse
 fuse_determined = record {
   each = fuse_told;
-  ranges = (tt, (tt, (tt, ((omega arith, omega arith), (tt, (tt, (tt, ((omega arith, omega arith), (tt, (tt, (tt, ((omega arith, omega arith), (tt, (tt, tt))))))))))))));
+  ranges = (tt, (tt, (tt, (omega arith, (tt, (tt, (tt, (omega arith, (tt, (tt, (tt, (omega arith, (tt, (tt, tt))))))))))))));
 }
 
 abbrev drop_told : (x : ℕ) → x < 3 → Determined (2 ∷ []) drop_dead.demands x
@@ -94,7 +94,7 @@ drop_told (suc (suc zero)) l = given_one 2 (inl refl)
 drop_told (suc (suc (suc x))) l = absurd (omega (arith, l))
 
 abbrev drop_determined : IsDetermined drop_dead
-drop_determined = record { each = drop_told; ranges = (tt, (tt, (tt, ((omega arith, omega arith), tt)))) }
+drop_determined = record { each = drop_told; ranges = (tt, (tt, (tt, (omega arith, tt)))) }
 
 -- ---- the run
 

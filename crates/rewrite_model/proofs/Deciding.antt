@@ -21,8 +21,10 @@ use Rattle.native_set.specs.declared.native.Constraint.{Constraint}
 use Rattle.native_set.specs.declared.native.Constraint.TheVariants.{HasOneUse, HasNoUse, IsInt, IsZero, SameBlock, NoRegions}
 use Rattle.native_set.specs.Arithmetic.{is_int, is_zero}
 use Rattle.rewrite_model.specs.Pattern.{Parts, Expr, Demand, is_attr, is_type, has_parts, has_name, has_type, stands, calls, Pattern}
+use Rattle.rewrite_model.specs.Ranges.{has_ranges}
+use Rattle.rewrite_model.specs.Segments.{segments_of}
 use Rattle.rewrite_model.specs.Things.{Thing, an_op, a_value, some_values, an_attr, a_type, some_types, kind_of, is_thing, IsAssignment, each, concatenated, denoted, values_denoted, types_denoted}
-use Rattle.rewrite_model.specs.Holding.{HasEntry, HasParts, row_given, thing_type, uses, result_uses, NativeHolds, Holds}
+use Rattle.rewrite_model.specs.Holding.{HasEntry, HasOperands, HasParts, row_given, thing_type, uses, result_uses, NativeHolds, Holds}
 use Rattle.rewrite_model.specs.Matching.{MatchesBy, Matches}
 use Rattle.rewrite_model.specs.Laws.{MatchesAreDecided}
 use Rattle.rewrite_model.proofs.Told.{some_or}
@@ -174,10 +176,14 @@ module _ (rows : List Row) (a : List Thing) where
   entries : (r : Row) (e : List ℕ × Expr) → Decided (HasEntry rows a r e)
   entries r e = found (attribute_of r e.0) (λ v. denoted rows a e.1 ≡ Some (an_attr v)) (λ v. options things (denoted rows a e.1) (Some (an_attr v)))
 
+  operands : (ranges : Bool) (es : List Expr) (r : Row) → Decided (HasOperands ranges rows a es r)
+  operands true es r = found (segments_of r) (λ ss. each (values_denoted rows a) es ≡ Some ss) (λ ss. options (lists (lists vals)) (each (values_denoted rows a) es) (Some ss))
+  operands false es r = options (lists vals) (concatenated (values_denoted rows a) es) (Some r.operands)
+
   described : (o : Parts Expr) (r : Row) → Decided (HasParts rows a o r)
-  described o r = by (options (lists vals) (concatenated (values_denoted rows a) o.operands) (Some r.operands))
+  described o r = by (operands (has_ranges (map kind_of a) o.operands) o.operands r)
       (all (HasEntry rows a r) (entries r) o.entries) (options (lists types) (concatenated (types_denoted rows a) o.types) (Some r.results)) where
-        by : Decided (concatenated (values_denoted rows a) o.operands ≡ Some r.operands) → Decided (AllByRecursion (HasEntry rows a r) o.entries)
+        by : Decided (HasOperands (has_ranges (map kind_of a) o.operands) rows a o.operands r) → Decided (AllByRecursion (HasEntry rows a r) o.entries)
             → Decided (concatenated (types_denoted rows a) o.types ≡ Some r.results) → Decided (HasParts rows a o r)
         by (inl v) (inl e) (inl t) = inl (record { operands = v; entries = e; types = t })
         by (inr q) e t = inr (λ d. q d.operands)

@@ -10,7 +10,8 @@ use Rattle.rewrite_model.specs.Pattern.{Parts, Expr, the, result, only_result, D
 use Rattle.rewrite_model.specs.Pattern as asks
 use Rattle.rewrite_model.specs.Names.{Meant, Names, meaning}
 use Rattle.rewrite_model.specs.MatchPart.{Scene, new_number, ask}
-use Rattle.rewrite_model.specs.Determined.{IsIn, StandsIn, values_of, IsPart, Determined, given_one, attr_told, type_told, part_of, type_of, kind_in, is_range_kind, ranges, HasOneRange, KeepsOneRange}
+use Rattle.rewrite_model.specs.Determined.{IsIn, StandsIn, values_of, IsPart, Determined, given_one, attr_told, type_told, part_of, type_of, HasOneRange, KeepsOneRange}
+use Rattle.rewrite_model.specs.Ranges.{kind_in, is_range_kind, ranges}
 use Rattle.rewrite_model.proofs.Apart.{IsTold, in_front, in_either}
 use Rattle.rewrite_model.proofs.Adding.{Adds, front_get, still_told}
 
@@ -79,7 +80,7 @@ pub record Follows (r : Renumbering) (s t : Scene) : Type 0 where
   pub names : SameNames r t.kinds s.names t.names
   pub demands : (d : Demand) → IsIn d s.demands → HasSame r d t.demands
   pub covered : (y : ℕ) → y < length t.kinds → ((x : ℕ) × (x < length s.kinds) × IsIn (x, y) r) ⊎ IsTold y t.demands
-  pub few : (y : ℕ) (o : Parts Expr) → IsIn (has_parts y o) t.demands → HasFewRanges t.kinds o.operands × HasFewRanges t.kinds o.types
+  pub few : (y : ℕ) (o : Parts Expr) → IsIn (has_parts y o) t.demands → HasFewRanges t.kinds o.types
 
 -- ---- more numbers
 
@@ -157,7 +158,7 @@ follows_adds r s t u f a e = record {
   names = subst (λ ns. SameNames r u.kinds s.names ns) (sym e) (names_more r r t.kinds u.kinds (λ p i. i) a.kinds s.names t.names f.names);
   demands = λ d i. has_more r r (λ p j. j) t.demands u.demands a.kept d (f.demands d i);
   covered = λ y l. by y (a.told y l);
-  few = λ y o i. let h = f.few y o (a.parts y o i) in (few_more t.kinds u.kinds a.kinds o.operands h.0, few_more t.kinds u.kinds a.kinds o.types h.1);
+  few = λ y o i. few_more t.kinds u.kinds a.kinds o.types (f.few y o (a.parts y o i));
 } where
   old : (y : ℕ) → ((x : ℕ) × (x < length s.kinds) × IsIn (x, y) r) ⊎ IsTold y t.demands → ((x : ℕ) × (x < length s.kinds) × IsIn (x, y) r) ⊎ IsTold y u.demands
   old y (inl h) = inl h
@@ -190,7 +191,7 @@ follows_numbered at k r s t f =
       names = names_more r q t.kinds (t.kinds ++ k ∷ []) w (kinds_more k t) s.names t.names f.names;
       demands = λ d i. has_more r q w t.demands t.demands (λ e j. j) d (f.demands d i);
       covered = λ y n. by y (omega (arith, m, n)) (cases_lt y (length t.kinds));
-      few = λ y o i. let h = f.few y o i in (few_more t.kinds (t.kinds ++ k ∷ []) (kinds_more k t) o.operands h.0, few_more t.kinds (t.kinds ++ k ∷ []) (kinds_more k t) o.types h.1);
+      few = λ y o i. few_more t.kinds (t.kinds ++ k ∷ []) (kinds_more k t) o.types (f.few y o i);
     } where
       old : (y : ℕ) → ((x : ℕ) × (x < length s.kinds) × IsIn (x, y) r) ⊎ IsTold y t.demands
           → ((x : ℕ) × (x < length (s.kinds ++ k ∷ [])) × IsIn (x, y) (with_new r s t)) ⊎ IsTold y t.demands
@@ -210,10 +211,10 @@ new_pair k r s t = record { kind = refl; same = inl refl; known = last_get t.kin
 
 -- what is asked of parts
 abbrev pub AsksFew : List Kind → Demand → Type 0
-AsksFew ks (has_parts x o) = HasFewRanges ks o.operands × HasFewRanges ks o.types
+AsksFew ks (has_parts x o) = HasFewRanges ks o.types
 AsksFew ks d = ⊤
 
-few_of : (ks : List Kind) (y : ℕ) (o : Parts Expr) (d : Demand) → has_parts y o ≡ d → AsksFew ks d → HasFewRanges ks o.operands × HasFewRanges ks o.types
+few_of : (ks : List Kind) (y : ℕ) (o : Parts Expr) (d : Demand) → has_parts y o ≡ d → AsksFew ks d → HasFewRanges ks o.types
 few_of ks y o d e h = subst (AsksFew ks) (sym e) h
 
 -- a demand in both
@@ -236,7 +237,7 @@ follows_asked d e r s t h a f = record {
   cover y (inl g) = inl g
   cover y (inr i) = inr (still_told y t.demands (t.demands ++ e ∷ []) kept i)
 
-  fewer : (y : ℕ) (o : Parts Expr) → IsIn (has_parts y o) t.demands ⊎ (has_parts y o ≡ e) → HasFewRanges t.kinds o.operands × HasFewRanges t.kinds o.types
+  fewer : (y : ℕ) (o : Parts Expr) → IsIn (has_parts y o) t.demands ⊎ (has_parts y o ≡ e) → HasFewRanges t.kinds o.types
   fewer y o (inl i) = f.few y o i
   fewer y o (inr g) = few_of t.kinds y o e g a
 
@@ -341,7 +342,7 @@ one_range : (ks : List Kind) (es : List Expr) → HasFewRanges ks es → HasOneR
 one_range ks es h = let a = counted ks es h.0 h.1 in let b = h.2 in omega (arith, a, b)
 
 keeps_one : (ks : List Kind) (d : Demand) → AsksFew ks d → KeepsOneRange ks d
-keeps_one ks (has_parts x o) h = (one_range ks o.operands h.0, one_range ks o.types h.1)
+keeps_one ks (has_parts x o) h = one_range ks o.types h
 keeps_one ks (is_attr x v) h = tt
 keeps_one ks (is_type x t) h = tt
 keeps_one ks (has_type x e) h = tt
@@ -350,7 +351,7 @@ keeps_one ks (has_name x n) h = tt
 keeps_one ks (asks.calls c xs) h = tt
 
 all_of : (ks : List Kind) (ds es : List Demand) → ((d : Demand) → IsIn d ds → IsIn d es)
-    → ((y : ℕ) (o : Parts Expr) → IsIn (has_parts y o) es → HasFewRanges ks o.operands × HasFewRanges ks o.types) → AllByRecursion (KeepsOneRange ks) ds
+    → ((y : ℕ) (o : Parts Expr) → IsIn (has_parts y o) es → HasFewRanges ks o.types) → AllByRecursion (KeepsOneRange ks) ds
 all_of ks [] es k f = tt
 all_of ks (d ∷ ds) es k f = (keeps_one ks d (by d (k d (inl refl))), all_of ks ds es (λ c i. k c (inr i)) f) where
   by : (d : Demand) → IsIn d es → AsksFew ks d
@@ -362,6 +363,6 @@ all_of ks (d ∷ ds) es k f = (keeps_one ks d (by d (k d (inl refl))), all_of ks
   by (has_name x n) i = tt
   by (asks.calls c xs) i = tt
 
--- No list of the second scene has two ranges.
+-- No list of types of the second scene has two ranges.
 pub few_everywhere : (r : Renumbering) (s t : Scene) → Follows r s t → AllByRecursion (KeepsOneRange t.kinds) t.demands
 few_everywhere r s t f = all_of t.kinds t.demands t.demands (λ d i. i) f.few

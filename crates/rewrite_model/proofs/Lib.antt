@@ -10,6 +10,7 @@ pub mod SomeRun
 pub mod Courses
 pub mod Refuting
 pub mod RunExamples
+pub mod SegmentExamples
 pub mod PutIn
 pub mod Places
 pub mod LayoutSubstituted

@@ -50,7 +50,7 @@ each_told (suc (suc (suc (suc zero)))) l = root_told
 each_told (suc (suc (suc (suc (suc x))))) l = absurd (omega (arith, l))
 
 abbrev is_determined : IsDetermined reshape_reshape
-is_determined = record { each = each_told; ranges = (tt, (tt, (tt, ((omega arith, omega arith), (tt, (tt, (tt, ((omega arith, omega arith), tt)))))))) }
+is_determined = record { each = each_told; ranges = (tt, (tt, (tt, (omega arith, (tt, (tt, (tt, (omega arith, tt)))))))) }
 
 -- ---- the run
 

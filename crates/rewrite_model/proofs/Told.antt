@@ -14,9 +14,11 @@ use Rattle.mlir_tree.specs.Edits.{attribute_of}
 use Rattle.native_set.specs.declared.native.Kind.{Kind}
 use Rattle.native_set.specs.declared.native.Kind.TheVariants as kind
 use Rattle.rewrite_model.specs.Pattern.{Parts, Expr, the, result, only_result, Demand, is_attr, is_type, has_parts, has_type, Pattern}
-use Rattle.rewrite_model.specs.Determined.{IsIn, StandsIn, values_of, IsPart, Determined, given_one, attr_told, type_told, part_of, type_of, kind_in, is_range_kind, is_range, ranges, HasOneRange, KeepsOneRange}
-use Rattle.rewrite_model.specs.Things.{Thing, an_op, a_value, some_values, an_attr, a_type, some_types, kind_of, row_at, result_at, only_result_at, values_in, types_in, joined, concatenated, denoted, values_denoted, types_denoted}
-use Rattle.rewrite_model.specs.Holding.{HasEntry, HasParts, thing_type, Holds}
+use Rattle.rewrite_model.specs.Determined.{IsIn, StandsIn, values_of, IsPart, Determined, given_one, attr_told, type_told, part_of, type_of, HasOneRange, KeepsOneRange}
+use Rattle.rewrite_model.specs.Ranges.{kind_in, is_range_kind, is_range, ranges, has_ranges}
+use Rattle.rewrite_model.specs.Segments.{segments_of}
+use Rattle.rewrite_model.specs.Things.{Thing, an_op, a_value, some_values, an_attr, a_type, some_types, kind_of, row_at, result_at, only_result_at, values_in, types_in, joined, concatenated, each, denoted, values_denoted, types_denoted}
+use Rattle.rewrite_model.specs.Holding.{HasEntry, HasOperands, HasParts, thing_type, Holds}
 use Rattle.rewrite_model.specs.Matching.{MatchesBy}
 
 abbrev pub some_or : {X : Type 0} → X → Option X → X
@@ -32,6 +34,26 @@ module _ {X : Type 0} (single : X → Thing) (many : List X → Thing) where
   cut (true ∷ fs) xs = many (take (length xs - length fs) xs) ∷ cut fs (drop (length xs - length fs) xs)
   cut (false ∷ fs) [] = []
   cut (false ∷ fs) (x ∷ xs) = single x ∷ cut fs xs
+
+-- ---- segments
+
+-- by which of the members are ranges
+abbrev pub of_segments : List Bool → List (List Val) → List Thing
+of_segments [] ss = []
+of_segments (true ∷ fs) (s ∷ ss) = some_values s ∷ of_segments fs ss
+of_segments (false ∷ fs) ((v ∷ []) ∷ ss) = a_value v ∷ of_segments fs ss
+of_segments (f ∷ fs) ss = []
+
+abbrev pub by_segments : List Bool → Option (List (List Val)) → List Thing
+by_segments fs None = []
+by_segments fs (Some ss) = of_segments fs ss
+
+-- what the members of a list of operands are, by whether it has two or more ranges
+abbrev pub operands_cut : Bool → List Bool → Row → List Thing
+operands_cut true fs r = by_segments fs (segments_of r)
+operands_cut false fs r = cut a_value some_values fs r.operands
+
+-- ---- what is denoted
 
 -- each expression denotes the thing at its place
 abbrev pub Denote : List Row → List Thing → List Expr → List Thing → Type 0
@@ -138,6 +160,14 @@ module _ {X : Type 0} (single : X → Thing) (many : List X → Thing) (part : T
             subst (λ b. Denote rows a (e ∷ es) (cut single many (b ∷ map (is_range ks) es) xs)) (sym c)
             (subst (λ w. Denote rows a (e ∷ es) (cut single many (false ∷ map (is_range ks) es) w)) (sym z) (d ∙ ap Some h.2, go (omega (arith, y))))
 
+-- one member, and the others
+pub each_part : {A X : Type 0} (f : A → Option X) (x : A) (xs : List A) (ys : List X) → each f (x ∷ xs) ≡ Some ys → (y : X) × (rest : List X) × (f x ≡ Some y) × (each f xs ≡ Some rest) × (ys ≡ y ∷ rest)
+each_part {X = X} f x xs ys e = by (f x) (each f xs) e where
+  by : (o : Option X) (q : Option (List X)) → joined (option_map (λ y. y ∷ []) o) q ≡ Some ys → (y : X) × (rest : List X) × (o ≡ Some y) × (q ≡ Some rest) × (ys ≡ y ∷ rest)
+  by None q e = absurd (cc)
+  by (Some y) None e = absurd (cc)
+  by (Some y) (Some rest) e = (y, rest, refl, refl, ap (some_or ys) (sym e))
+
 -- ---- values and types
 
 one_value : (t : Thing) (xs : List Val) → is_range_kind (Some (kind_of t)) ≡ false → values_in t ≡ Some xs → (x : Val) × (xs ≡ x ∷ []) × (t ≡ a_value x)
@@ -161,6 +191,32 @@ value_parts = record { one = one_value; more = more_values }
 
 type_parts : IsJoinedBy a_type some_types types_in
 type_parts = record { one = one_type; more = more_types }
+
+-- What the expressions denote are the segments.
+segments_right : (rows : List Row) (ks : List Kind) (a : List Thing) → map kind_of a ≡ ks → (es : List Expr) (ss : List (List Val)) → each (values_denoted rows a) es ≡ Some ss
+    → Denote rows a es (of_segments (map (is_range ks) es) ss)
+segments_right rows ks a fits [] ss j = tt
+segments_right rows ks a fits (e ∷ es) ss j =
+    let p = each_part (values_denoted rows a) e es ss j in
+    let d = there values_in (denoted rows a e) p.0 p.2 in
+    let k = kind_is rows ks a fits e d.0 d.1 in
+    by p.0 p.1 (is_range ks e) refl d.0 (sym (ap is_range_kind k)) d.1 d.2 p.4 (segments_right rows ks a fits es p.1 p.3) where
+      by : (s : List Val) (rest : List (List Val)) (b : Bool) → is_range ks e ≡ b → (t : Thing) → is_range_kind (Some (kind_of t)) ≡ is_range ks e → denoted rows a e ≡ Some t → values_in t ≡ Some s
+          → ss ≡ s ∷ rest → Denote rows a es (of_segments (map (is_range ks) es) rest) → Denote rows a (e ∷ es) (of_segments (is_range ks e ∷ map (is_range ks) es) ss)
+      by s rest true c t k d p x go =
+          subst (λ b. Denote rows a (e ∷ es) (of_segments (b ∷ map (is_range ks) es) ss)) (sym c)
+          (subst (λ w. Denote rows a (e ∷ es) (of_segments (true ∷ map (is_range ks) es) w)) (sym x) (d ∙ ap Some (more_values t s (k ∙ c) p), go))
+      by s rest false c t k d p x go =
+          let h = one_value t s (k ∙ c) p in
+          subst (λ b. Denote rows a (e ∷ es) (of_segments (b ∷ map (is_range ks) es) ss)) (sym c)
+          (subst (λ w. Denote rows a (e ∷ es) (of_segments (false ∷ map (is_range ks) es) w)) (sym (x ∙ ap (λ w. w ∷ rest) h.1)) (d ∙ ap Some h.2, go))
+
+operands_right : (rows : List Row) (ks : List Kind) (a : List Thing) → map kind_of a ≡ ks → (es : List Expr) (r : Row) → HasOperands (has_ranges (map kind_of a) es) rows a es r
+    → Denote rows a es (operands_cut (has_ranges ks es) (map (is_range ks) es) r)
+operands_right rows ks a fits es r h = by (has_ranges ks es) refl (subst (λ l. HasOperands (has_ranges l es) rows a es r) fits h) where
+  by : (b : Bool) → has_ranges ks es ≡ b → HasOperands b rows a es r → Denote rows a es (operands_cut b (map (is_range ks) es) r)
+  by true p h = subst (λ o. Denote rows a es (by_segments (map (is_range ks) es) o)) (sym h.1) (segments_right rows ks a fits es h.0 h.2)
+  by false p h = cut_right a_value some_values values_in value_parts rows ks a fits es r.operands (grind (arith, nat_tests)) h
 
 -- ---- the variable in an expression, by what the expression denotes
 
@@ -228,19 +284,19 @@ picked_entry rows a r e (x ∷ es) (inl i) h = ap (denoted rows a) i ∙ (h.0.2 
 picked_entry rows a r e (x ∷ es) (inr i) h = picked_entry rows a r e es i h.1
 
 abbrev pub pick_part : List Kind → Row → (e : Expr) (o : Parts Expr) → IsPart e o → Option Thing
-pick_part ks r e o (inl i) = pick e o.operands i (cut a_value some_values (map (is_range ks) o.operands) r.operands)
+pick_part ks r e o (inl i) = pick e o.operands i (operands_cut (has_ranges ks o.operands) (map (is_range ks) o.operands) r)
 pick_part ks r e o (inr (inl i)) = pick_entry r e o.entries i
 pick_part ks r e o (inr (inr i)) = pick e o.types i (cut a_type some_types (map (is_range ks) o.types) r.results)
 
 pub picked_part : (rows : List Row) (ks : List Kind) (a : List Thing) → map kind_of a ≡ ks → (r : Row) (e : Expr) (o : Parts Expr) (i : IsPart e o)
-    → HasOneRange ks o.operands × HasOneRange ks o.types → HasParts rows a o r → denoted rows a e ≡ pick_part ks r e o i
+    → HasOneRange ks o.types → HasParts rows a o r → denoted rows a e ≡ pick_part ks r e o i
 picked_part rows ks a fits r e o (inl i) one d =
-    picked rows a e o.operands i (cut a_value some_values (map (is_range ks) o.operands) r.operands)
-    (cut_right a_value some_values values_in value_parts rows ks a fits o.operands r.operands one.0 d.operands)
+    picked rows a e o.operands i (operands_cut (has_ranges ks o.operands) (map (is_range ks) o.operands) r)
+    (operands_right rows ks a fits o.operands r d.operands)
 picked_part rows ks a fits r e o (inr (inl i)) one d = picked_entry rows a r e o.entries i d.entries
 picked_part rows ks a fits r e o (inr (inr i)) one d =
     picked rows a e o.types i (cut a_type some_types (map (is_range ks) o.types) r.results)
-    (cut_right a_type some_types types_in type_parts rows ks a fits o.types r.results one.1 d.types)
+    (cut_right a_type some_types types_in type_parts rows ks a fits o.types r.results one d.types)
 
 module _ (rows : List Row) (ks : List Kind) (demands : List Demand) (root : ℕ) (id : ℕ) where
   abbrev pub told : (x : ℕ) → Determined (root ∷ []) demands x → Option Thing
@@ -257,8 +313,16 @@ holding P d (x ∷ ds) (inr i) h = holding P d ds i h.1
 
 -- a part denotes something
 pub part_denotes : (rows : List Row) (ks : List Kind) (a : List Thing) → map kind_of a ≡ ks → (r : Row) (e : Expr) (o : Parts Expr) → IsPart e o
-    → HasOneRange ks o.operands × HasOneRange ks o.types → HasParts rows a o r → (t : Thing) × (denoted rows a e ≡ Some t)
-part_denotes rows ks a fits r e o (inl i) one d = operand o.operands i r.operands d.operands where
+    → HasOneRange ks o.types → HasParts rows a o r → (t : Thing) × (denoted rows a e ≡ Some t)
+part_denotes rows ks a fits r e o (inl i) one d = by (has_ranges (map kind_of a) o.operands) d.operands where
+  segment : (es : List Expr) → IsIn e es → (ss : List (List Val)) → each (values_denoted rows a) es ≡ Some ss → (t : Thing) × (denoted rows a e ≡ Some t)
+  segment [] i ss j = elim i [ ]
+  segment (x ∷ es) (inl i) ss j =
+      let p = each_part (values_denoted rows a) x es ss j in
+      let d = there values_in (denoted rows a x) p.0 p.2 in
+      (d.0, ap (denoted rows a) i ∙ d.1)
+  segment (x ∷ es) (inr i) ss j = let p = each_part (values_denoted rows a) x es ss j in segment es i p.1 p.3
+
   operand : (es : List Expr) → IsIn e es → (vs : List Val) → concatenated (values_denoted rows a) es ≡ Some vs → (t : Thing) × (denoted rows a e ≡ Some t)
   operand [] i vs j = elim i [ ]
   operand (x ∷ es) (inl i) vs j =
@@ -266,6 +330,10 @@ part_denotes rows ks a fits r e o (inl i) one d = operand o.operands i r.operand
       let d = there values_in (denoted rows a x) h.0 h.2 in
       (d.0, ap (denoted rows a) i ∙ d.1)
   operand (x ∷ es) (inr i) vs j = let h = both_parts (values_denoted rows a x) (concatenated (values_denoted rows a) es) vs j in operand es i h.1 h.3
+
+  by : (b : Bool) → HasOperands b rows a o.operands r → (t : Thing) × (denoted rows a e ≡ Some t)
+  by true h = segment o.operands i h.0 h.2
+  by false h = operand o.operands i r.operands h
 part_denotes rows ks a fits r e o (inr (inl i)) one d = value o.entries i d.entries where
   value : (es : List (List ℕ × Expr)) → IsIn e (values_of es) → AllByRecursion (HasEntry rows a r) es → (t : Thing) × (denoted rows a e ≡ Some t)
   value [] i h = elim i [ ]
@@ -289,7 +357,7 @@ module _ (rows : List Row) (p : Pattern) (id : ℕ) (a : List Thing) (one : AllB
   told_right _ (type_told x t i) = holding (Holds rows a) (is_type x t) p.demands i m.holds
   told_right _ (part_of x y o e d t i s) =
       let h : Holds rows a (has_parts x o) = holding (Holds rows a) (has_parts x o) p.demands d m.holds in
-      let u : HasOneRange p.kinds o.operands × HasOneRange p.kinds o.types = holding (KeepsOneRange p.kinds) (has_parts x o) p.demands d one in
+      let u : HasOneRange p.kinds o.types = holding (KeepsOneRange p.kinds) (has_parts x o) p.demands d one in
       let n = part_denotes rows p.kinds a m.assigned.kinds_fit h.0 e o i u h.2 in
       let q : denoted rows a e ≡ pick_part p.kinds h.0 e o i = picked_part rows p.kinds a m.assigned.kinds_fit h.0 e o i u h.2 in
       let w : option_and_then (row_at rows) (told rows p.kinds p.demands p.root id x t) ≡ Some h.0 = ap (option_and_then (row_at rows)) (sym (told_right x t)) ∙ h.1 in

@@ -1,10 +1,10 @@
 -- Which variables and operation expressions are determined, so that at most one choice fits them.
-use Rattle.std.specs.Prelude.{◌≡◌, ◌⊎◌, ℕ, ◌+◌, ◌<◌, ◌≤◌, Bool, true, false, if◌then◌else◌, List, [], ◌∷◌, map, length, slice_get, Option, Some, ⊤}
+use Rattle.std.specs.Prelude.{◌≡◌, ◌⊎◌, ℕ, ◌<◌, ◌≤◌, List, [], ◌∷◌, map, length, ⊤}
 use Rattle.std.specs.List.{AllByRecursion}
 use Rattle.mlir_tree.specs.Tree.{Ty, Attr}
 use Rattle.native_set.specs.declared.native.Kind.{Kind}
-use Rattle.native_set.specs.declared.native.Kind.TheVariants as kind
 use Rattle.rewrite_model.specs.Pattern.{Parts, Expr, the, result, only_result, Demand, is_attr, is_type, has_parts, has_type, Pattern}
+use Rattle.rewrite_model.specs.Ranges.{ranges}
 
 abbrev pub IsIn : {X : Type 0} → X → List X → Type 0
 IsIn x [] = ⊥
@@ -35,35 +35,18 @@ pub data Determined (given : List ℕ) (demands : List Demand) : ℕ → Type 0 
 
 -- ---- ranges
 
-abbrev pub kind_in : List Kind → Expr → Option Kind
-kind_in ks (the x) = slice_get ks x
-kind_in ks (result x k) = Some kind.Value
-kind_in ks (only_result x) = Some kind.Value
-
-abbrev pub is_range_kind : Option Kind → Bool
-is_range_kind (Some kind.Values) = true
-is_range_kind (Some kind.Tys) = true
-is_range_kind k = false
-
--- whether an expression stands for several values or types
-abbrev pub is_range : List Kind → Expr → Bool
-is_range ks e = is_range_kind (kind_in ks e)
-
-abbrev pub ranges : List Kind → List Expr → ℕ
-ranges ks [] = 0
-ranges ks (e ∷ es) = (if is_range ks e then 1 else 0) + ranges ks es
-
--- At most one does.
+-- At most one expression stands for several.
 abbrev pub HasOneRange : List Kind → List Expr → Type 0
 HasOneRange ks es = ranges ks es ≤ 1
 
+-- So it is in each list of types. Several ranges of operands are told apart by sizes.
 abbrev pub KeepsOneRange : List Kind → Demand → Type 0
-KeepsOneRange ks (has_parts x o) = HasOneRange ks o.operands × HasOneRange ks o.types
+KeepsOneRange ks (has_parts x o) = HasOneRange ks o.types
 KeepsOneRange ks d = ⊤
 
 -- ---- patterns
 
--- Whatever has a number is determined, and no list of operands or types has two ranges.
+-- Whatever has a number is determined, and no list of types has two ranges.
 pub record IsDetermined (p : Pattern) : Type 0 where
   pub each : (x : ℕ) → x < length p.kinds → Determined (p.root ∷ []) p.demands x
   pub ranges : AllByRecursion (KeepsOneRange p.kinds) p.demands

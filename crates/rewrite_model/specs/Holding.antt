@@ -1,6 +1,6 @@
 -- When what a match asks for holds in a module with an assignment (PDLL document, "Operation Expression", "Constraints",
 -- "Native Constraints").
-use Rattle.std.specs.Prelude.{◌≡◌, ℕ, Bool, false, ◌==◌, List, [], ◌∷◌, sum_by, count_by, slice_get, Option, Some, None, option_map, option_and_then, IsTrue}
+use Rattle.std.specs.Prelude.{◌≡◌, ℕ, Bool, true, false, ◌==◌, List, [], ◌∷◌, map, sum_by, count_by, slice_get, Option, Some, None, option_map, option_and_then, IsTrue}
 use Rattle.std.specs.List.{AllByRecursion}
 use Rattle.mlir_tree.specs.declared.row.Row.{Row}
 use Rattle.mlir_tree.specs.declared.value.Val.{Val}
@@ -13,7 +13,9 @@ use Rattle.native_set.specs.declared.native.Constraint.{Constraint}
 use Rattle.native_set.specs.declared.native.Constraint.TheVariants.{HasOneUse, HasNoUse, IsInt, IsZero, SameBlock, NoRegions}
 use Rattle.native_set.specs.Arithmetic.{is_int, is_zero}
 use Rattle.rewrite_model.specs.Pattern.{Parts, Expr, Demand, stands, is_attr, is_type, has_name, has_parts, has_type, calls}
-use Rattle.rewrite_model.specs.Things.{Thing, an_op, a_value, some_values, an_attr, a_type, some_types, row_at, type_of, each, concatenated, denoted, values_denoted, types_denoted}
+use Rattle.rewrite_model.specs.Ranges.{has_ranges}
+use Rattle.rewrite_model.specs.Segments.{segments_of}
+use Rattle.rewrite_model.specs.Things.{Thing, an_op, a_value, some_values, an_attr, a_type, some_types, kind_of, row_at, type_of, each, concatenated, denoted, values_denoted, types_denoted}
 
 -- ---- operations
 
@@ -21,9 +23,19 @@ use Rattle.rewrite_model.specs.Things.{Thing, an_op, a_value, some_values, an_at
 abbrev pub HasEntry : List Row → List Thing → Row → List ℕ × Expr → Type 0
 HasEntry rows a r e = (v : Attr) × (attribute_of r e.0 ≡ Some v) × (denoted rows a e.1 ≡ Some (an_attr v))
 
--- The operands of the row are the operands denoted, one behind another, and so are its result types.
+-- The row has segments, and each member of the list denotes the values of its own: a range any number, another one.
+abbrev pub HasSegments : List Row → List Thing → List Expr → Row → Type 0
+HasSegments rows a es r = (ss : List (List Val)) × (segments_of r ≡ Some ss) × (each (values_denoted rows a) es ≡ Some ss)
+
+-- The operands of the row are the operands denoted: by its segments where there are two or more ranges, and otherwise one
+-- behind another.
+abbrev pub HasOperands : Bool → List Row → List Thing → List Expr → Row → Type 0
+HasOperands true rows a es r = HasSegments rows a es r
+HasOperands false rows a es r = concatenated (values_denoted rows a) es ≡ Some r.operands
+
+-- The row has the operands and the attributes, and its result types are the types denoted, one behind another.
 pub record HasParts (rows : List Row) (a : List Thing) (o : Parts Expr) (r : Row) : Type 0 where
-  pub operands : concatenated (values_denoted rows a) o.operands ≡ Some r.operands
+  pub operands : HasOperands (has_ranges (map kind_of a) o.operands) rows a o.operands r
   pub entries : AllByRecursion (HasEntry rows a r) o.entries
   pub types : concatenated (types_denoted rows a) o.types ≡ Some r.results
 

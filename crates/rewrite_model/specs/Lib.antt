@@ -5,9 +5,11 @@ pub mod MatchPart
 pub mod RewritePart
 pub mod Expanding
 pub mod Size
+pub mod Ranges
 pub mod Determined
 pub mod Own
 pub mod Things
+pub mod Segments
 pub mod Holding
 pub mod Matching
 pub mod Taken

@@ -2,7 +2,7 @@
 
 ghost use Rattle.rewrite_model.specs.Laws.{AtMostOneAssignment, MatchesAreDecided, OneRun, ConvergedRunsMatchNowhere, StepsKeepOperandsVisible, RunsKeepOperandsVisible, RewritesKeepLayout, StepsKeepWellFormed, RunsKeepWellFormed, RunsReachTheirEnd, NumbersHavePlaces, PartsComeFirst, SizesBoundOperations, StepsGiveNumbers, StepsKeepLimits, NumbersRise};
 
-/// A pattern whose variables and operation expressions are all determined, and whose lists have at most one range each,
+/// A pattern whose variables and operation expressions are all determined, and whose lists of types have at most one range each,
 /// matches at an operation by at most one assignment.
 pub fn at_most_one_assignment()
     ensures { AtMostOneAssignment }

@@ -4,12 +4,15 @@ use Rattle.std.specs.Prelude.{slice_get, option_and_then}
 use Rattle.std.specs.List.{AllByRecursion}
 use Rattle.std.proofs.lemmas.Option.{slice_get_past}
 use Rattle.mlir_tree.specs.declared.row.Row.{Row}
+use Rattle.mlir_tree.specs.declared.value.Val.{Val}
 use Rattle.mlir_tree.specs.declared.value.Val.TheVariants.{Res, Arg}
 use Rattle.mlir_tree.specs.Tree.{Ty, Attr}
 use Rattle.mlir_tree.specs.Edits.{attribute_of}
 use Rattle.native_set.specs.declared.native.Kind.{Kind}
 use Rattle.rewrite_model.specs.Pattern.{Parts, Expr, the, result, only_result, Demand, stands, is_attr, is_type, has_name, has_parts, has_type, calls, Pattern}
-use Rattle.rewrite_model.specs.Determined.{IsIn, StandsIn, IsPart, values_of, is_range, KeepsOneRange, IsDetermined}
+use Rattle.rewrite_model.specs.Determined.{IsIn, StandsIn, IsPart, values_of, KeepsOneRange, IsDetermined}
+use Rattle.rewrite_model.specs.Ranges.{is_range, has_ranges}
+use Rattle.rewrite_model.specs.Segments.{segments_of}
 use Rattle.rewrite_model.specs.Laws.{number_in}
 use Rattle.rewrite_model.specs.Things.{Thing, an_op, a_value, some_values, an_attr, a_type, some_types, row_at, denoted}
 use Rattle.rewrite_model.specs.Holding.{thing_type, Holds}
@@ -21,7 +24,7 @@ use Rattle.rewrite_model.proofs.Unique.{less_or_not, length_fits}
 use Rattle.pdll_expand.specs.declared.demand.Demand.{Demand as DemandNode}
 use Rattle.pdll_expand.specs.View.{demand_of}
 use Rattle.row_matcher.specs.Asked.{Asks}
-use Rattle.row_matcher.specs.Learning.{Known, known_at, learnt, learnt_if, holder, variable_in, tell, tells, cut, tell_list, tell_entries, tell_parts, tell_row, grown, passed, all_known, times, IsReached, start}
+use Rattle.row_matcher.specs.Learning.{Known, known_at, learnt, learnt_if, holder, variable_in, tell, tells, cut, of_segments, by_segments, operands_cut, tell_operands, tell_list, tell_entries, tell_parts, tell_row, grown, passed, all_known, times, IsReached, start}
 use Rattle.row_matcher.proofs.Learning.{Below, below_itself, below_both, below_on, below_length, below_learnt, below_tell, below_tells, below_entries, below_grown, below_passed}
 
 -- ---- the same words
@@ -41,6 +44,23 @@ same_cut single many [] xs = refl
 same_cut single many (true ∷ fs) xs = ap (λ ts. many (take (length xs - length fs) xs) ∷ ts) (same_cut single many fs (drop (length xs - length fs) xs))
 same_cut single many (false ∷ fs) [] = refl
 same_cut single many (false ∷ fs) (x ∷ xs) = ap (λ ts. single x ∷ ts) (same_cut single many fs xs)
+
+same_segments : (fs : List Bool) (ss : List (List Val)) → of_segments fs ss ≡ told.of_segments fs ss
+same_segments [] ss = refl
+same_segments (true ∷ fs) [] = refl
+same_segments (false ∷ fs) [] = refl
+same_segments (true ∷ fs) (s ∷ ss) = ap (λ ts. some_values s ∷ ts) (same_segments fs ss)
+same_segments (false ∷ fs) ([] ∷ ss) = refl
+same_segments (false ∷ fs) ((v ∷ []) ∷ ss) = ap (λ ts. a_value v ∷ ts) (same_segments fs ss)
+same_segments (false ∷ fs) ((v ∷ w ∷ vs) ∷ ss) = refl
+
+same_by : (fs : List Bool) (o : Option (List (List Val))) → by_segments fs o ≡ told.by_segments fs o
+same_by fs None = refl
+same_by fs (Some ss) = same_segments fs ss
+
+same_operands : (b : Bool) (fs : List Bool) (r : Row) → operands_cut b fs r ≡ told.operands_cut b fs r
+same_operands true fs r = same_by fs (segments_of r)
+same_operands false fs r = same_cut a_value some_values fs r.operands
 
 stands_number : (e : Expr) → StandsIn (number_in e) e
 stands_number (the x) = refl
@@ -138,7 +158,7 @@ entries_known r (x ∷ es) k s e (inr i) t w g v l =
 parts_known : (ks : List Kind) (r : Row) (o : Parts Expr) (k : Known) → tell_parts ks r o k ≡ k → (e : Expr) (q : IsPart e o) (t w : Thing) → pick_part ks r e o q ≡ Some t → told.variable_in e t ≡ Some w
     → number_in e < length k → IsKnown (known_at k) (number_in e)
 parts_known ks r o k s e q t w g v l =
-    let first = tell_list a_value some_values ks o.operands r.operands k in
+    let first = tell_operands ks o.operands r k in
     let second = tell_entries r o.entries first in
     let third = tell_list a_type some_types ks o.types r.results second in
     let a : Below k first = below_tells o.operands _ k in
@@ -147,10 +167,10 @@ parts_known ks r o k s e q t w g v l =
     let one : first ≡ k = between k first third a (below_on first second third b c) s in
     let two : second ≡ k = between k second third (below_on k first second a b) c s in
     by q g one two where
-      by : (q : IsPart e o) → pick_part ks r e o q ≡ Some t → tell_list a_value some_values ks o.operands r.operands k ≡ k
-          → tell_entries r o.entries (tell_list a_value some_values ks o.operands r.operands k) ≡ k → IsKnown (known_at k) (number_in e)
+      by : (q : IsPart e o) → pick_part ks r e o q ≡ Some t → tell_operands ks o.operands r k ≡ k
+          → tell_entries r o.entries (tell_operands ks o.operands r k) ≡ k → IsKnown (known_at k) (number_in e)
       by (inl i) g one two =
-          tells_known o.operands _ k one e i t w (ap (pick e o.operands i) (same_cut a_value some_values (map (is_range ks) o.operands) r.operands) ∙ g) v l
+          tells_known o.operands _ k one e i t w (ap (pick e o.operands i) (same_operands (has_ranges ks o.operands) (map (is_range ks) o.operands) r) ∙ g) v l
       by (inr (inl i)) g one two = entries_known r o.entries k (ap (tell_entries r o.entries) (sym one) ∙ two) e i t w g v l
       by (inr (inr i)) g one two =
           tells_known o.types _ k (ap (tell_list a_type some_types ks o.types r.results) (sym two) ∙ s) e i t w (ap (pick e o.types i) (same_cut a_type some_types (map (is_range ks) o.types) r.results) ∙ g) v l
@@ -197,9 +217,10 @@ module _ (rows : List Row) (p : Pattern) (id : ℕ) (a : List Thing) (one : AllB
   fits_parts : (o : Parts Expr) (r : Row) (k : Known) → IsBelow (known_at k) a → ((e : Expr) (q : IsPart e o) (t : Thing) → pick_part p.kinds r e o q ≡ Some t → slice_get a (number_in e) ≡ told.variable_in e t)
       → IsBelow (known_at (tell_parts p.kinds r o k)) a
   fits_parts o r k b f =
+      let many = has_ranges p.kinds o.operands in
       let vs = map (is_range p.kinds) o.operands in
       let ts = map (is_range p.kinds) o.types in
-      let first = fits_tells a o.operands (cut a_value some_values vs r.operands) k b (λ e i t g. f e (inl i) t (ap (pick e o.operands i) (sym (same_cut a_value some_values vs r.operands)) ∙ g)) in
+      let first = fits_tells a o.operands (operands_cut many vs r) k b (λ e i t g. f e (inl i) t (ap (pick e o.operands i) (sym (same_operands many vs r)) ∙ g)) in
       let second = fits_entries a r o.entries _ first (λ e i t g. f e (inr (inl i)) t g) in
       fits_tells a o.types (cut a_type some_types ts r.results) _ second (λ e i t g. f e (inr (inr i)) t (ap (pick e o.types i) (sym (same_cut a_type some_types ts r.results)) ∙ g))
 

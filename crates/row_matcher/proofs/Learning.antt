@@ -7,7 +7,7 @@ use Rattle.native_set.specs.declared.native.Kind.{Kind}
 use Rattle.rewrite_model.specs.Pattern.{Parts, Expr, Demand, stands, is_attr, is_type, has_name, has_parts, has_type, calls}
 use Rattle.rewrite_model.specs.Laws.{number_in}
 use Rattle.rewrite_model.specs.Things.{Thing, a_value, some_values, an_attr, a_type}
-use Rattle.row_matcher.specs.Learning.{Known, learnt, learnt_if, tell, tells, tell_list, tell_entries, tell_row, grown, passed, known_in}
+use Rattle.row_matcher.specs.Learning.{Known, learnt, learnt_if, tell, tells, tell_operands, tell_entries, tell_row, grown, passed, known_in}
 
 -- ---- less is known
 
@@ -99,7 +99,7 @@ below_entries r (x ∷ es) k =
 below_row : (ks : List Kind) (r : Option Row) (o : Parts Expr) (k : Known) → Below k (tell_row ks r o k)
 below_row ks None o k = below_itself k
 below_row ks (Some r) o k =
-    let one = tell_list a_value some_values ks o.operands r.operands k in
+    let one = tell_operands ks o.operands r k in
     let two = tell_entries r o.entries one in
     below_on k one _ (below_tells o.operands _ k) (below_on one two _ (below_entries r o.entries one) (below_tells o.types _ two))
 

@@ -6,7 +6,7 @@ use Rattle.std.proofs.lemmas.Bool.Decides.{nat_tests}
 use Rattle.mlir_tree.specs.declared.row.Row.{Row}
 use Rattle.native_set.specs.declared.native.Kind.{Kind}
 use Rattle.rewrite_model.specs.Pattern.{Expr, Demand}
-use Rattle.rewrite_model.specs.Determined.{is_range}
+use Rattle.rewrite_model.specs.Ranges.{is_range}
 use Rattle.rewrite_model.specs.Things.{Thing}
 use Rattle.rewrite_model.proofs.Told.{some_or, same_length}
 use Rattle.row_matcher.specs.declared.thing.Thing.{Thing as ThingNode}

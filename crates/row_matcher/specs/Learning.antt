@@ -1,13 +1,15 @@
 -- What is known of the things that numbers have, and how it grows.
 use Rattle.std.specs.Prelude.{◌≡◌, ℕ, zero, suc, ◌-◌, Bool, true, false, List, [], ◌∷◌, map, length, take, drop, replicate, slice_get, Option, Some, None, option_map, option_and_then}
 use Rattle.mlir_tree.specs.declared.row.Row.{Row}
+use Rattle.mlir_tree.specs.declared.value.Val.{Val}
 use Rattle.mlir_tree.specs.declared.value.Val.TheVariants.{Res}
 use Rattle.mlir_tree.specs.Edits.{attribute_of}
 use Rattle.native_set.specs.declared.native.Kind.{Kind}
 use Rattle.rewrite_model.specs.Pattern.{Parts, Expr, the, result, only_result, Demand, is_attr, is_type, has_parts, has_type}
 use Rattle.rewrite_model.specs.Things.{Thing, an_op, a_value, some_values, an_attr, a_type, some_types, row_at}
 use Rattle.rewrite_model.specs.Holding.{thing_type}
-use Rattle.rewrite_model.specs.Determined.{is_range}
+use Rattle.rewrite_model.specs.Ranges.{is_range, has_ranges}
+use Rattle.rewrite_model.specs.Segments.{segments_of}
 use Rattle.rewrite_model.specs.Laws.{number_in}
 use Rattle.row_matcher.specs.declared.thing.Thing.{Thing as ThingNode}
 use Rattle.row_matcher.specs.View.{thing_of}
@@ -72,12 +74,43 @@ cut_one single many false n (x ∷ xs) = Some (single x, xs)
 abbrev pub tell_list : {X : Type 0} → (X → Thing) → (List X → Thing) → List Kind → List Expr → List X → Known → Known
 tell_list single many ks es xs k = tells es (cut single many (map (is_range ks) es) xs) k
 
+-- what a member of a list of operands is by its segment: a range is the list, another member the one value
+abbrev pub segment_thing : Bool → List Val → Option Thing
+segment_thing true vs = Some (some_values vs)
+segment_thing false (v ∷ []) = Some (a_value v)
+segment_thing false vs = None
+
+abbrev pub thing_then : Option Thing → List Thing → List Thing
+thing_then None ts = []
+thing_then (Some t) ts = t ∷ ts
+
+-- Segments as what expressions of these sorts denote.
+abbrev pub of_segments : List Bool → List (List Val) → List Thing
+of_segments [] ss = []
+of_segments (f ∷ fs) [] = []
+of_segments (f ∷ fs) (s ∷ ss) = thing_then (segment_thing f s) (of_segments fs ss)
+
+abbrev pub by_segments : List Bool → Option (List (List Val)) → List Thing
+by_segments fs None = []
+by_segments fs (Some ss) = of_segments fs ss
+
+-- What the members of a list of operands are told, by whether it has two or more ranges.
+abbrev pub operands_cut : Bool → List Bool → Row → List Thing
+operands_cut true fs r = by_segments fs (segments_of r)
+operands_cut false fs r = cut a_value some_values fs r.operands
+
+abbrev pub tell_operands : List Kind → List Expr → Row → Known → Known
+tell_operands ks es r k = tells es (operands_cut (has_ranges ks es) (map (is_range ks) es) r) k
+
+abbrev pub tell_segments : List Kind → List Expr → Option (List (List Val)) → Known → Known
+tell_segments ks es ss k = tells es (by_segments (map (is_range ks) es) ss) k
+
 abbrev pub tell_entries : Row → List (List ℕ × Expr) → Known → Known
 tell_entries r [] k = k
 tell_entries r (x ∷ es) k = tell_entries r es (tell x.1 (option_map an_attr (attribute_of r x.0)) k)
 
 abbrev pub tell_parts : List Kind → Row → Parts Expr → Known → Known
-tell_parts ks r o k = tell_list a_type some_types ks o.types r.results (tell_entries r o.entries (tell_list a_value some_values ks o.operands r.operands k))
+tell_parts ks r o k = tell_list a_type some_types ks o.types r.results (tell_entries r o.entries (tell_operands ks o.operands r k))
 
 abbrev pub tell_row : List Kind → Option Row → Parts Expr → Known → Known
 tell_row ks None o k = k

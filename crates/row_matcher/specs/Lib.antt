@@ -1,4 +1,5 @@
 pub mod View
 pub mod Behind
 pub mod Asked
+pub mod Segments
 pub mod Learning

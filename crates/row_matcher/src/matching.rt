@@ -18,6 +18,7 @@ pub mod holding;
 mod learning;
 mod naming;
 pub mod parts;
+mod segments;
 
 use crate::matching::denoting::{is, seen_at};
 use crate::matching::holding::holds;

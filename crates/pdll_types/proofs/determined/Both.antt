@@ -6,7 +6,8 @@ use Rattle.pdll_syntax.specs.ExprTree.{expr, ExprForm, Ref, ref, attr_ref, op_re
 use Rattle.native_set.specs.declared.native.Kind.{Kind as Plain}
 use Rattle.native_set.specs.declared.native.Kind.TheVariants as plain
 use Rattle.rewrite_model.specs.Pattern.{Parts, Expr, the, result, only_result, stands, is_attr, is_type, has_name, has_parts, has_type}
-use Rattle.rewrite_model.specs.Determined.{IsIn, kind_in, is_range_kind, values_of}
+use Rattle.rewrite_model.specs.Determined.{IsIn, values_of}
+use Rattle.rewrite_model.specs.Ranges.{kind_in, is_range_kind}
 use Rattle.rewrite_model.specs.Names.{Meant, ref_name}
 use Rattle.rewrite_model.specs.MatchPart.{Scene, Constrains, meant, new_number, ask, mention, number_of, as_operand, call_named, call_refs, kind_of_refs as refs_written, variable}
 use Rattle.rewrite_model.specs.Own.{silent}
@@ -135,9 +136,9 @@ a_number at k n d e r s t f h = typed n d e h (named n) where
   typed n (Some a) None h g = absurd h
 
 -- an operation behind its parts
-pub an_operation_goes : (ws : List (List ℕ)) (r : Renumbering) (v : Seen) (at : ℕ) (n : List ℕ) (o p : Parts Expr) (s t : Scene) → SameParts r o p → HasFewRanges t.kinds p.operands → HasFewRanges t.kinds p.types → InStep ws r v s t
+pub an_operation_goes : (ws : List (List ℕ)) (r : Renumbering) (v : Seen) (at : ℕ) (n : List ℕ) (o p : Parts Expr) (s t : Scene) → SameParts r o p → HasFewRanges t.kinds p.types → InStep ws r v s t
     → Goes Pair ws r t v (meant plain.Op (the (length s.kinds)), with_operation at n o s) (meant plain.Op (the (length t.kinds)), with_operation at n p t)
-an_operation_goes ws r v at n o p s t m a b h =
+an_operation_goes ws r v at n o p s t m b h =
     let q = with_new r s t in
     let w : IsWithin r q = λ x i. inr i in
     let f = follows_numbered at plain.Op r s t h.follows in
@@ -156,7 +157,7 @@ an_operation_goes ws r v at n o p s t m a b h =
       kinds = l;
       step = with_scenes ws r q v s t (with_operation at n o s) (with_operation at n p t) h refl
           (follows_asked d e q s2 t2 (length t.kinds, p, inl refl, in_last t2.demands e, parts)
-          ((a.0, are_of_more t.kinds t1.kinds l p.operands a.0 a.1, a.2), (b.0, are_of_more t.kinds t1.kinds l p.types b.0 b.1, b.2)) g);
+          (b.0, are_of_more t.kinds t1.kinds l p.types b.0 b.1, b.2) g);
       gives = new_pair plain.Op r s t;
     }
 

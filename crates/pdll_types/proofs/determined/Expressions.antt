@@ -8,7 +8,8 @@ use Rattle.pdll_syntax.specs.ExprTree.{Expr as Syntax, expr, ExprForm, name_expr
 use Rattle.native_set.specs.declared.native.Kind.{Kind as Plain}
 use Rattle.native_set.specs.declared.native.Kind.TheVariants as plain
 use Rattle.rewrite_model.specs.Pattern.{Expr, the, result}
-use Rattle.rewrite_model.specs.Determined.{is_range_kind, values_of}
+use Rattle.rewrite_model.specs.Determined.{values_of}
+use Rattle.rewrite_model.specs.Ranges.{is_range_kind}
 use Rattle.rewrite_model.specs.Names.{Meant}
 use Rattle.rewrite_model.specs.MatchPart.{Scene, Constrains, meant, number_of, as_operand, kind_of_refs as refs_written, variable, expression, form_at, operation_at, operands_at, operand_list, types_at, expressions, entries_of, entry_of, given, type_of_refs}
 use Rattle.rewrite_model.specs.Own.{silent}
@@ -82,6 +83,10 @@ record GivesOp (r : Renumbering) (ks : List Plain) (x y : Meant Expr) : Type 0 w
 record GivesFew (r : Renumbering) (ks : List Plain) (ds es : List Expr) : Type 0 where
   same : AllSame r ds es
   few : HasFewRanges ks es
+
+-- what is listed
+abbrev GivesSame : Renumbering → List Plain → List Expr → List Expr → Type 0
+GivesSame r ks ds es = AllSame r ds es
 
 abbrev pub GivesAny : {A : Type 0} → Renumbering → List Plain → A → A → Type 0
 GivesAny r ks x y = ⊤
@@ -250,14 +255,12 @@ module _ (c : List Declared) (g : List ℕ → Constrains) (knows : Knows c g)
         let d = read_types ts at ws b.new vb z.1 u.1 (fine_back c va mb mc rest) b.step in
         let p = types_at f ts at z.1 in
         let q = types_at g ts at u.1 in
-        let few : HasFewRanges q.1.kinds y.0 =
-        (a.gives.few.0, are_of_more u.1.kinds q.1.kinds d.kinds y.0 a.gives.few.0 (are_of_more y.1.kinds u.1.kinds b.kinds y.0 a.gives.few.0 a.gives.few.1), a.gives.few.2) in
         let e = an_operation_goes ws d.new vc at n (record { operands = x.0; entries = z.0; types = p.0 }) (record { operands = y.0; entries = u.0; types = q.0 }) p.1 q.1
         (record {
-          operands = all_same_more a.new d.new (λ i j. d.more i (b.more i j)) x.0 y.0 a.gives.same;
+          operands = all_same_more a.new d.new (λ i j. d.more i (b.more i j)) x.0 y.0 a.gives;
           values = all_same_more b.new d.new d.more (values_of z.0) (values_of u.0) b.gives;
           types = d.gives.same;
-        }) few d.gives.few d.step in
+        }) d.gives.few d.step in
         goes_to GivesOp ws r t vc (behind c v (ma ++ (mb ++ mc))) (operation_at f (operation n os es ts) at s) (operation_at g (operation n os es ts) at t)
         (sym (behind_both c v ma (mb ++ mc) ∙ behind_both c va mb mc)) (record {
           new = e.new;
@@ -268,22 +271,23 @@ module _ (c : List Declared) (g : List ℕ → Constrains) (knows : Knows c g)
         })
 
     read_operands : (os : MaybeExprs) (at : ℕ) (ws : List (List ℕ)) (r : Renumbering) (v : Seen) (s t : Scene) → AreFine c v (of_list c Matched operand os) → InStep ws r v s t
-        → Goes GivesFew ws r t (behind c v (of_list c Matched operand os)) (operands_at f os at s) (operands_at g os at t)
-    read_operands left_out at ws r v s t fine h = left_goes ws r v at plain.Values s t h
+        → Goes GivesSame ws r t (behind c v (of_list c Matched operand os)) (operands_at f os at s) (operands_at g os at t)
+    read_operands left_out at ws r v s t fine h =
+        let l = left_goes ws r v at plain.Values s t h in
+        record { new = l.new; more = l.more; kinds = l.kinds; step = l.step; gives = l.gives.same }
     read_operands (written es) at ws r v s t fine h =
         let ms = of_exprs c Matched operand es in
-        let m = listed Matched es in
+        let m = listed Matched operand es in
         let w = behind c v ms in
-        let last = (fine_back c v ms (m ∷ []) fine).0 in
         let a = read_list es ws r v s t (fine_front c v ms (m ∷ []) fine) h in
         let x = operand_list f es s in
         let y = operand_list g es t in
-        goes_to GivesFew ws r t (seen_behind c w m) (behind c v (ms ++ m ∷ [])) x y (sym (behind_both c v ms (m ∷ []))) (record {
+        goes_to GivesSame ws r t (seen_behind c w m) (behind c v (ms ++ m ∷ [])) x y (sym (behind_both c v ms (m ∷ []))) (record {
           new = a.new;
           more = a.more;
           kinds = a.kinds;
           step = over c m tt ws a.new w x.1 y.1 a.step;
-          gives = record { same = a.gives.same; few = (a.gives.plains, a.gives.are, few_ranges c w.sight es a.gives.plains a.gives.ranges last.two_ranges) };
+          gives = a.gives.same;
         })
 
     read_list : (es : Exprs) (ws : List (List ℕ)) (r : Renumbering) (v : Seen) (s t : Scene) → AreFine c v (of_exprs c Matched operand es) → InStep ws r v s t
@@ -327,7 +331,7 @@ module _ (c : List Declared) (g : List ℕ → Constrains) (knows : Knows c g)
     read_types left_out at ws r v s t fine h = left_goes ws r v at plain.Tys s t h
     read_types (written es) at ws r v s t fine h =
         let ms = of_exprs c Matched result_type es in
-        let m = listed Matched es in
+        let m = listed Matched result_type es in
         let w = behind c v ms in
         let last = (fine_back c v ms (m ∷ []) fine).0 in
         let a = read_all es ws r v s t (fine_front c v ms (m ∷ []) fine) h in

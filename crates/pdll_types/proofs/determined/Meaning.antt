@@ -8,7 +8,7 @@ use Rattle.native_set.specs.declared.native.Kind.TheVariants as plain
 use Rattle.rewrite_model.specs.Pattern.{Expr}
 use Rattle.rewrite_model.specs.Names.{Meant}
 use Rattle.rewrite_model.specs.MatchPart.{Constrains}
-use Rattle.rewrite_model.specs.Determined.{is_range_kind}
+use Rattle.rewrite_model.specs.Ranges.{is_range_kind}
 use Rattle.rewrite_model.proofs.Following.{range_count}
 use Rattle.pdll_types.specs.declared.kind.Kind.{Kind}
 use Rattle.pdll_types.specs.declared.kind.Kind.TheVariants as kind

@@ -63,7 +63,7 @@ pub over : (c : List Declared) (m : Mention) → IsNeutral m → (ws : List (Lis
 unfolding sight_behind words_behind
 over c (heading d) i ws r v s t h = record { follows = h.follows; sees = h.sees; known = h.known; waits = h.waits; apart = h.apart }
 over c (use_of p a at form) i ws r v s t h = record { follows = h.follows; sees = h.sees; known = h.known; waits = h.waits; apart = h.apart }
-over c (listed p xs) i ws r v s t h = record { follows = h.follows; sees = h.sees; known = h.known; waits = h.waits; apart = h.apart }
+over c (listed p a xs) i ws r v s t h = record { follows = h.follows; sees = h.sees; known = h.known; waits = h.waits; apart = h.apart }
 over c (ref_list p k rs) i ws r v s t h = record { follows = h.follows; sees = h.sees; known = h.known; waits = h.waits; apart = h.apart }
 over c (one_ref a k l rf) i ws r v s t h = record { follows = h.follows; sees = h.sees; known = h.known; waits = h.waits; apart = h.apart }
 over c (statement st l u) i ws r v s t h = record { follows = h.follows; sees = h.sees; known = h.known; waits = h.waits; apart = h.apart }
@@ -225,7 +225,7 @@ unfolding sight_behind
 stays_one c v (shown n rs x) m w h = stays_with v.sight n (kind_of_variable c v.sight rs x) m w h
 stays_one c v (heading d) m w h = h
 stays_one c v (use_of p a at form) m w h = h
-stays_one c v (listed p xs) m w h = h
+stays_one c v (listed p a xs) m w h = h
 stays_one c v (ref_list p k rs) m w h = h
 stays_one c v (one_ref a k l rf) m w h = h
 stays_one c v (statement st l u) m w h = h

@@ -2,7 +2,8 @@
 
 ghost use Rattle.std.specs.Prelude.{◌≡◌, map, length, Some, None, replicate, slice_get, option_copied, option_map, option_and_then, ◌↔◌, [], ◌∷◌, IsTrue, IfOk, OnOk};
 ghost use Rattle.rewrite_model.specs.Things as things;
-ghost use Rattle.rewrite_model.specs.Determined as determined;
+ghost use Rattle.segment_sizes.specs.Sizes.{parts as size_parts};
+ghost use Rattle.segment_sizes.specs.Reading.{segments_in};
 ghost use Rattle.rewrite_model.specs.Holding as holding;
 ghost use Rattle.rewrite_model.specs.Laws as laws;
 ghost use Rattle.pdll_expand.specs.View.{expr_of, named_expr_of, parts_of, demand_of};
@@ -12,6 +13,7 @@ ghost use Rattle.row_matcher.specs.Learning as spec;
 
 use crate::matching::denoting::type_of;
 use crate::matching::parts::attribute_of;
+use crate::matching::segments::{has_ranges, is_range, segment_sizes, segment_thing};
 use crate::thing::{Seen, Thing};
 use mlir_tree::row::Row;
 use mlir_tree::ty::{Ty, TyList};
@@ -20,6 +22,7 @@ use native_set::native::Kind;
 use pdll_expand::demand::{Demand, NamedExpr, Parts};
 use pdll_expand::expr::Expr;
 use row_index::index::{RowIndex, row_of};
+use segment_sizes::segments::first_segment;
 use shared_list::Shared;
 use sqlite_items::Items;
 use std::alloc::{AllocError, Global};
@@ -68,19 +71,6 @@ fn tell(alloc: Global, known: &mut Known, e: Expr, thing: Seen<'_>) -> Result<()
         (Expr::Result(x, _), Seen::Value(Val::Res(d, _))) => learn(alloc, known, x, Seen::Op(d)),
         (Expr::OnlyResult(x), Seen::Value(Val::Res(d, _))) => learn(alloc, known, x, Seen::Op(d)),
         _ => Ok(()),
-    }
-}
-
-/// Whether an expression stands for several values or types.
-fn is_range(kinds: &[Kind], e: Expr) -> bool
-    ensures { result ≡ determined.is_range kinds.now (expr_of e) }
-{
-    match e {
-        Expr::The(x) => match kinds.get(x) {
-            Some(Kind::Values) | Some(Kind::Tys) => true,
-            _ => false,
-        },
-        _ => false,
     }
 }
 
@@ -206,6 +196,53 @@ fn tell_values(
     Ok(())
 }
 
+/// Tells expressions the segments of a list of values, whose sizes a text spells.
+fn tell_segments(
+    alloc: Global,
+    known: &mut Known,
+    kinds: &[Kind],
+    exprs: &[Expr],
+    sizes: &[u8],
+    all: &[Val],
+) -> Result<(), AllocError>
+    requires { (ss : _) × (segments_in (size_parts sizes.now) all.now ≡ Some ss) }
+    ensures { OnOk result (spec.known_of known.new ≡ spec.tell_segments kinds.now (map expr_of exprs.now) (segments_in (size_parts sizes.now) all.now) (spec.known_of known.old)) }
+{
+    let mut left = Some(sizes);
+    let mut rest = all;
+    for e in exprs {
+        let segment = match left {
+            Some(sizes) => first_segment(sizes, rest),
+            None => None,
+        };
+        let Some(s) = segment else { return Ok(()) };
+        let Some(thing) = segment_thing(is_range(kinds, *e), s.items) else { return Ok(()) };
+        tell(alloc, known, *e, thing)?;
+        left = s.sizes;
+        rest = s.rest;
+    }
+    Ok(())
+}
+
+/// Tells the members of a list of operands what the row has.
+fn tell_operands(
+    alloc: Global,
+    known: &mut Known,
+    kinds: &[Kind],
+    exprs: &[Expr],
+    r: &Row,
+) -> Result<(), AllocError>
+    ensures { OnOk result (spec.known_of known.new ≡ spec.tell_operands kinds.now (map expr_of exprs.now) r.now (spec.known_of known.old)) }
+{
+    if !has_ranges(kinds, exprs) {
+        return tell_values(alloc, known, kinds, exprs, r.operands.as_slice());
+    }
+    match segment_sizes(r) {
+        Some(sizes) => tell_segments(alloc, known, kinds, exprs, sizes, r.operands.as_slice()),
+        None => Ok(()),
+    }
+}
+
 // ---- lists of types
 
 /// The first piece of a list of types, with what is left, where so many are behind. A range leaves one for each.
@@ -303,13 +340,7 @@ fn tell_parts(
 ) -> Result<(), AllocError>
     ensures { OnOk result (spec.known_of known.new ≡ spec.tell_parts kinds.now r.now (parts_of parts.now) (spec.known_of known.old)) }
 {
-    tell_values(
-        alloc,
-        known,
-        kinds,
-        parts.operands.as_slice(),
-        r.operands.as_slice(),
-    )?;
+    tell_operands(alloc, known, kinds, parts.operands.as_slice(), r)?;
     tell_entries(alloc, known, r, parts.entries.as_slice())?;
     tell_types(
         alloc,

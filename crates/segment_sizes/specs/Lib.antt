@@ -1,0 +1,3 @@
+pub mod Sizes
+pub mod Segments
+pub mod Reading
