@@ -5,7 +5,7 @@ ghost use Rattle.mlir_tree.specs.declared.value.Val.{Val as Value};
 ghost use Rattle.segment_sizes.specs.Sizes.{parts};
 ghost use Rattle.segment_sizes.specs.Reading.{segments_in};
 ghost use Rattle.rewrite_model.specs.Ranges as ranges;
-ghost use Rattle.rewrite_model.specs.Things.{values_in};
+ghost use Rattle.rewrite_model.specs.Things.{kind_of, values_in};
 ghost use Rattle.pdll_expand.specs.View.{expr_of};
 ghost use Rattle.row_index.specs.Indexing.{Indexes};
 ghost use Rattle.row_matcher.specs.View.{thing_of, seen_of};
@@ -43,6 +43,35 @@ pub fn has_ranges(kinds: &[Kind], exprs: &[Expr]) -> bool
     let mut one = false;
     for e in exprs {
         if is_range(kinds, *e) {
+            if one {
+                return true;
+            }
+            one = true;
+        }
+    }
+    false
+}
+
+/// Whether an expression stands for several values or types, by what the numbers were given.
+fn is_given_range(given: &[Thing], e: Expr) -> bool
+    ensures { result ≡ ranges.is_range (map kind_of (map thing_of given.now)) (expr_of e) }
+{
+    match e {
+        Expr::The(x) => match given.get(x) {
+            Some(t) => matches!(t.seen().kind(), Kind::Values | Kind::Tys),
+            None => false,
+        },
+        _ => false,
+    }
+}
+
+/// Whether two or more of the expressions do.
+pub fn are_given_ranges(given: &[Thing], exprs: &[Expr]) -> bool
+    ensures { result ≡ ranges.has_ranges (map kind_of (map thing_of given.now)) (map expr_of exprs.now) }
+{
+    let mut one = false;
+    for e in exprs {
+        if is_given_range(given, *e) {
             if one {
                 return true;
             }
