@@ -17,6 +17,7 @@ use Rattle.pdll_syntax.specs.ExprTree.{value_range_ref, no_expr}
 use Rattle.pdll_syntax.specs.StmtTree.{Stmt, stmt, replace_stmt}
 use Rattle.native_set.specs.declared.native.Kind.TheVariants as kind
 use Rattle.rewrite_model.specs.declared.run.Hit.{Hit}
+use Rattle.rewrite_model.specs.declared.run.Order.TheVariants.{First}
 use Rattle.rewrite_model.specs.declared.run.Ending.TheVariants.{Converged}
 use Rattle.rewrite_model.specs.Pattern.{Parts, Expr, the, stands, has_name, has_parts, matched, made, new_operation, results_of, result_types_of, makes, replaces, Pattern}
 use Rattle.rewrite_model.specs.Expanding.{expanded, patterns}
@@ -175,14 +176,14 @@ is_best = record { declared = refl; matches = (given, seg_match); best = best } 
 abbrev hit : Hit
 hit = record { pattern = 0; row = 2 }
 
-is_next : IsNext ps one_and_two.rows hit seg
+is_next : IsNext First ps one_and_two.rows hit seg
 unfolding less_or_not
 is_next = record {
   before = take 2 one_and_two.rows;
   row = pieces (sizes_are (codes "array<i32: 1, 2>"));
   after = [];
   in_order = refl;
-  none_before = (not_here one_and_two.rows 0 refl, (not_here one_and_two.rows 1 refl, tt));
+  none_ahead = (not_here one_and_two.rows 0 refl, (not_here one_and_two.rows 1 refl, tt));
   number = refl;
   best = is_best;
 }
@@ -192,7 +193,7 @@ unfolding less_or_not
 none_left = (not_here after.rows 0 refl, (not_here after.rows 1 refl, (not_here after.rows 3 refl, tt)))
 
 -- The segments change places.
-seg_run : Runs ps 10000 one_and_two (record {
+seg_run : Runs First ps 10000 one_and_two (record {
   taken = record { pattern = 0; name = codes "Seg"; root = 2; made = 3 ∷ []; removed = 2 ∷ [] } ∷ [];
   ending = Converged;
   rows = after;
@@ -200,10 +201,10 @@ seg_run : Runs ps 10000 one_and_two (record {
 seg_run = goes_on {n = 9999} {h = hit} {p = seg} is_next seg_match seg_step (converges none_left)
 
 -- No step is taken.
-run_with_too_few : Runs ps 10000 one_and_one (record { taken = []; ending = Converged; rows = one_and_one })
+run_with_too_few : Runs First ps 10000 one_and_one (record { taken = []; ending = Converged; rows = one_and_one })
 unfolding less_or_not
 run_with_too_few = converges (not_here one_and_one.rows 0 refl, (not_here one_and_one.rows 1 refl, (not_here one_and_one.rows 2 refl, tt)))
 
-run_without : Runs ps 10000 without (record { taken = []; ending = Converged; rows = without })
+run_without : Runs First ps 10000 without (record { taken = []; ending = Converged; rows = without })
 unfolding less_or_not
 run_without = converges (not_here without.rows 0 refl, (not_here without.rows 1 refl, (not_here without.rows 2 refl, tt)))

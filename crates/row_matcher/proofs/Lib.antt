@@ -4,3 +4,4 @@ pub mod Learning
 pub mod Learnt
 pub mod Known
 pub mod Naming
+mod Segments

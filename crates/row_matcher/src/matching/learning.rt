@@ -1,7 +1,8 @@
 //! What is known of the things that numbers have.
 
-ghost use Rattle.std.specs.Prelude.{◌≡◌, map, length, Some, None, replicate, slice_get, option_copied, option_map, option_and_then, ◌↔◌, [], ◌∷◌, IsTrue, IfOk, OnOk};
+ghost use Rattle.std.specs.Prelude.{◌≡◌, List, map, length, Some, None, replicate, slice_get, option_copied, option_map, option_and_then, ◌↔◌, [], ◌∷◌, IsTrue, IfOk, OnOk};
 ghost use Rattle.rewrite_model.specs.Things as things;
+ghost use Rattle.mlir_tree.specs.declared.value.Val.{Val as Value};
 ghost use Rattle.segment_sizes.specs.Sizes.{parts as size_parts};
 ghost use Rattle.segment_sizes.specs.Reading.{segments_in};
 ghost use Rattle.rewrite_model.specs.Holding as holding;
@@ -13,7 +14,7 @@ ghost use Rattle.row_matcher.specs.Learning as spec;
 
 use crate::matching::denoting::type_of;
 use crate::matching::parts::attribute_of;
-use crate::matching::segments::{has_ranges, is_range, segment_sizes, segment_thing};
+use crate::matching::segments::{has_ranges, is_range, next_segment, segment_sizes, segment_thing};
 use crate::thing::{Seen, Thing};
 use mlir_tree::row::Row;
 use mlir_tree::ty::{Ty, TyList};
@@ -22,7 +23,6 @@ use native_set::native::Kind;
 use pdll_expand::demand::{Demand, NamedExpr, Parts};
 use pdll_expand::expr::Expr;
 use row_index::index::{RowIndex, row_of};
-use segment_sizes::segments::first_segment;
 use shared_list::Shared;
 use sqlite_items::Items;
 use std::alloc::{AllocError, Global};
@@ -197,6 +197,7 @@ fn tell_values(
 }
 
 /// Tells expressions the segments of a list of values, whose sizes a text spells.
+#[tactic(auto, using(crate::proofs::Segments::segment_told, crate::proofs::Segments::segment_untold, crate::proofs::Segments::no_segment))]
 fn tell_segments(
     alloc: Global,
     known: &mut Known,
@@ -205,21 +206,23 @@ fn tell_segments(
     sizes: &[u8],
     all: &[Val],
 ) -> Result<(), AllocError>
-    requires { (ss : _) × (segments_in (size_parts sizes.now) all.now ≡ Some ss) }
+    requires { (ss : List (List Value)) × (segments_in (size_parts sizes.now) all.now ≡ Some ss) }
     ensures { OnOk result (spec.known_of known.new ≡ spec.tell_segments kinds.now (map expr_of exprs.now) (segments_in (size_parts sizes.now) all.now) (spec.known_of known.old)) }
 {
     let mut left = Some(sizes);
     let mut rest = all;
     for e in exprs {
-        let segment = match left {
-            Some(sizes) => first_segment(sizes, rest),
-            None => None,
-        };
-        let Some(s) = segment else { return Ok(()) };
-        let Some(thing) = segment_thing(is_range(kinds, *e), s.items) else { return Ok(()) };
-        tell(alloc, known, *e, thing)?;
-        left = s.sizes;
-        rest = s.rest;
+        match next_segment(left, rest) {
+            Some(s) => {
+                match segment_thing(is_range(kinds, *e), s.items) {
+                    Some(thing) => tell(alloc, known, *e, thing)?,
+                    None => return Ok(()),
+                }
+                left = s.sizes;
+                rest = s.rest;
+            }
+            None => return Ok(()),
+        }
     }
     Ok(())
 }

@@ -4,14 +4,16 @@ ghost use Rattle.std.specs.Prelude.{◌≡◌, ◌↔◌, [], ◌∷◌, map, So
 ghost use Rattle.std.specs.List.{AllByRecursion};
 ghost use Rattle.std.specs.Str.{bytes_eq};
 ghost use Rattle.mlir_tree.specs.Edits as edits;
-ghost use Rattle.rewrite_model.specs.Things.{concatenated, values_in, types_in, values_denoted, types_denoted};
-ghost use Rattle.rewrite_model.specs.Holding.{HasEntry, HasParts};
+ghost use Rattle.rewrite_model.specs.Ranges.{has_ranges};
+ghost use Rattle.rewrite_model.specs.Things.{kind_of, concatenated, values_in, types_in, values_denoted, types_denoted};
+ghost use Rattle.rewrite_model.specs.Holding.{HasEntry, HasOperands, HasParts};
 ghost use Rattle.pdll_expand.specs.View.{expr_of, named_expr_of, parts_of};
 ghost use Rattle.row_index.specs.Indexing.{Indexes};
 ghost use Rattle.row_matcher.specs.View.{thing_of, seen_of};
 ghost use Rattle.row_matcher.specs.Behind.{Leaves};
 
 use crate::matching::denoting::{denoted, is};
+use crate::matching::segments::{are_given_ranges, has_segments, segment_sizes};
 use crate::thing::{Seen, Thing};
 use mlir_tree::attr::Attr;
 use mlir_tree::row::Row;
@@ -80,6 +82,27 @@ fn has_operands(
         }
     }
     rest.is_empty()
+}
+
+/// Whether these expressions denote the operands of the row: by its segments where two or more are ranges, and otherwise
+/// one behind another.
+fn has_all_operands(
+    rows: &[Row],
+    index: &RowIndex,
+    given: &[Thing],
+    exprs: &[Expr],
+    r: &Row,
+) -> bool
+    requires { Indexes index.now rows.now }
+    ensures { IsTrue result ↔ HasOperands (has_ranges (map kind_of (map thing_of given.now)) (map expr_of exprs.now)) rows.now (map thing_of given.now) (map expr_of exprs.now) r.now }
+{
+    if !are_given_ranges(given, exprs) {
+        return has_operands(rows, index, given, exprs, r.operands.as_slice());
+    }
+    match segment_sizes(r) {
+        Some(sizes) => has_segments(rows, index, given, exprs, sizes, r.operands.as_slice()),
+        None => false,
+    }
 }
 
 // ---- types
@@ -208,13 +231,8 @@ pub fn has_parts(
     requires { Indexes index.now rows.now }
     ensures { IsTrue result ↔ HasParts rows.now (map thing_of given.now) (parts_of parts.now) r.now }
 {
-    has_operands(
-        rows,
-        index,
-        given,
-        parts.operands.as_slice(),
-        r.operands.as_slice(),
-    ) && has_entries(rows, index, given, r, parts.entries.as_slice())
+    has_all_operands(rows, index, given, parts.operands.as_slice(), r)
+        && has_entries(rows, index, given, r, parts.entries.as_slice())
         && has_types(
             rows,
             index,
