@@ -10,7 +10,7 @@ use Rattle.mlir_tree.specs.Tree.{Attr}
 use Rattle.mlir_tree.specs.Edits.{attribute_of}
 use Rattle.segment_sizes.specs.declared.segments.Segment.{Segment}
 use Rattle.segment_sizes.specs.Sizes.{parts, size_of, size_then, sizes_of, spelling, sizes}
-use Rattle.segment_sizes.specs.Segments.{fitting, runs}
+use Rattle.segment_sizes.specs.Segments.{fitting, runs, segments}
 use Rattle.segment_sizes.specs.Reading.{parts_left, segments_in}
 use Rattle.native_set.specs.declared.native.Kind.{Kind}
 use Rattle.rewrite_model.specs.Pattern.{Expr}
@@ -44,17 +44,17 @@ kind_nowhere a x e = slice_get-map kind_of (map thing_of a) x ∙ ap (option_map
 -- ---- the sizes that a row spells
 
 pub no_attribute : (r : Row) → None ≡ attribute_of r (codes "operandSegmentSizes") → segments_of r ≡ None
-no_attribute r e = ap (option_and_then _) (sym e)
+no_attribute r e = ap (option_and_then (λ x. segments x r.operands)) (sym e)
 
 pub counted : (r : Row) (a : Attr) → Some a ≡ attribute_of r (codes "operandSegmentSizes") → (o : Option ℕ) → o ≡ option_map length (option_and_then (fitting (length r.operands)) (sizes a)) → o ≡ None → segments_of r ≡ None
-counted r a e o c n = ap (option_and_then _) (sym e) ∙ by (option_and_then (fitting (length r.operands)) (sizes a)) (sym c ∙ n) where
+counted r a e o c n = ap (option_and_then (λ x. segments x r.operands)) (sym e) ∙ by (option_and_then (fitting (length r.operands)) (sizes a)) (sym c ∙ n) where
   by : (q : Option (List ℕ)) → option_map length q ≡ None → option_map (λ ns. runs ns r.operands) q ≡ None
   by None p = refl
   by (Some ns) p = absurd (cc)
 
 pub spelled : (r : Row) (a : Attr) → Some a ≡ attribute_of r (codes "operandSegmentSizes") → (n : ℕ) → Some n ≡ option_map length (option_and_then (fitting (length r.operands)) (sizes a)) → (o : Option (List ℕ)) → o ≡ spelling a → SpellsSegments r o
 spelled r a e n c o s = by o (subst (λ q. Some n ≡ option_map length (option_and_then (fitting (length r.operands)) (option_and_then (λ text. sizes_of (parts text)) q))) (sym s) c)
-    (ap (option_and_then _) (sym e) ∙ ap (λ q. option_map (λ ns. runs ns r.operands) (option_and_then (fitting (length r.operands)) (option_and_then (λ text. sizes_of (parts text)) q))) (sym s)) where
+    (ap (option_and_then (λ x. segments x r.operands)) (sym e) ∙ ap (λ q. option_map (λ ns. runs ns r.operands) (option_and_then (fitting (length r.operands)) (option_and_then (λ text. sizes_of (parts text)) q))) (sym s)) where
       there : (q : Option (List ℕ)) → Some n ≡ option_map length q → (ss : List (List Val)) × (option_map (λ ns. runs ns r.operands) q ≡ Some ss)
       there None p = absurd (cc)
       there (Some ns) p = (_, refl)
@@ -67,9 +67,6 @@ spelled r a e n c o s = by o (subst (λ q. Some n ≡ option_map length (option_
 -- ---- what segments denote
 
 module _ (rows : List Row) (a : List Thing) where
-  values : Expr → Option (List Val)
-  values e = values_denoted rows a e
-
   pub denoted_next : (e : Expr) (es : List Expr) (vs : List Val) (o q : Option (List (List Val))) → o ≡ option_map (λ ss. vs ∷ ss) q → values_denoted rows a e ≡ Some vs
       → AreDenoted rows a (e ∷ es) o ↔ AreDenoted rows a es q
   denoted_next e es vs o q p v = (there q p, back q p) where
@@ -100,15 +97,20 @@ module _ (rows : List Row) (a : List Thing) where
   none_denoted es o p h = let g = sym p ∙ h.1 in cc
 
   pub none_left : (e : Expr) (es : List Expr) (vs : List Val) → AreDenoted rows a (e ∷ es) (segments_in [] vs) → ⊥
-  none_left e es [] h = let d = each_part (values_denoted rows a) e es h.0 h.2 in let g = h.1 ∙ ap Some d.4 in cc
-  none_left e es (v ∷ vs) h = let g = h.1 in cc
+  none_left e es vs h = by _ h.1 (each_part (values_denoted rows a) e es h.0 h.2).4 where
+    by : {x : List Val} {xs : List (List Val)} (b : Bool) → option_map (λ ns. runs ns vs) (cond b (Some []) None) ≡ Some h.0 → h.0 ≡ x ∷ xs → ⊥
+    by true f g = let c = f ∙ ap Some g in cc
+    by false f g = cc
 
 no_parts : (text : List ℕ) → parts text ≡ [] → ⊥
 no_parts text e = let l = length-slice_split (λ b. b == 44) text in let z : length (parts text) ≡ 0 = ap length e in omega (arith, l, z)
 
 some_part : (ps : List (List ℕ)) (vs : List Val) → segments_in ps vs ≡ Some [] → (ps ≡ []) × (vs ≡ [])
 some_part [] [] e = (refl, refl)
-some_part [] (v ∷ vs) e = absurd (cc)
+some_part [] (v ∷ vs) e = absurd (by (0 == suc (length vs)) refl e) where
+  by : (b : Bool) → (0 == suc (length vs)) ≡ b → option_map (λ ns. runs ns (v ∷ vs)) (cond b (Some []) None) ≡ Some [] → ⊥
+  by true p e = grind (arith, nat_tests)
+  by false p e = cc
 some_part (p ∷ ps) vs e = absurd (by (size_of p) (sizes_of ps) e) where
   fits : (n : ℕ) (ns : List ℕ) (b : Bool) → option_map (λ ms. runs ms vs) (cond b (Some (n ∷ ns)) None) ≡ Some [] → ⊥
   fits n ns true e = cc
@@ -147,7 +149,7 @@ drop_more : {B : Type 0} (g : B → Expr) (es : List B) (i : ℕ) (d : B) → i 
 drop_more g es i d l = let n : suc i ≡ i + 1 = omega arith in drop_next g es i d l ∙ ap (λ k. g (get_or es i d) ∷ map g (drop k es)) n
 
 -- the segments that are left
-abbrev left_of : Option (List ℕ) → List Val → Option (List (List Val))
+abbrev pub left_of : Option (List ℕ) → List Val → Option (List (List Val))
 left_of left vs = segments_in (parts_left left) vs
 
 next_is : (left : Option (List ℕ)) (vs : List Val) (s : Segment Val) → IsNextSegment left vs (Some s) → left_of left vs ≡ option_map (λ ss. s.items.now ∷ ss) (left_of (option_copied s.sizes) s.rest.now)
@@ -194,7 +196,10 @@ module _ {B : Type 0} (g : B → Expr) (es : List B) (i : ℕ) (d : B) (l : i < 
       more : List Expr
       more = map g (drop (i + 1) es)
 
+      nothing : (ws : List Val) (b : Bool) → tell_segments ks (e ∷ more) (option_map (λ ns. runs ns ws) (cond b (Some []) None)) k ≡ k
+      nothing ws true = refl
+      nothing ws false = refl
+
       by : (o : Option (List ℕ)) (ws : List Val) → IsNextSegment o ws None → tell_segments ks (e ∷ more) (left_of o ws) k ≡ k
-      by None [] h = refl
-      by None (w ∷ ws) h = refl
+      by None ws h = nothing ws _
       by (Some text) ws h = ap (λ z. tell_segments ks (e ∷ more) z k) h

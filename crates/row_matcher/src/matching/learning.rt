@@ -14,7 +14,7 @@ ghost use Rattle.row_matcher.specs.Learning as spec;
 
 use crate::matching::denoting::type_of;
 use crate::matching::parts::attribute_of;
-use crate::matching::segments::{has_ranges, is_range, next_segment, segment_sizes, segment_thing};
+use crate::matching::segments::{has_ranges, is_range, next_segment, segment_thing, spelled_sizes};
 use crate::thing::{Seen, Thing};
 use mlir_tree::row::Row;
 use mlir_tree::ty::{Ty, TyList};
@@ -240,7 +240,7 @@ fn tell_operands(
     if !has_ranges(kinds, exprs) {
         return tell_values(alloc, known, kinds, exprs, r.operands.as_slice());
     }
-    match segment_sizes(r) {
+    match spelled_sizes(r) {
         Some(sizes) => tell_segments(alloc, known, kinds, exprs, sizes, r.operands.as_slice()),
         None => Ok(()),
     }

@@ -13,7 +13,7 @@ ghost use Rattle.row_matcher.specs.View.{thing_of, seen_of};
 ghost use Rattle.row_matcher.specs.Behind.{Leaves};
 
 use crate::matching::denoting::{denoted, is};
-use crate::matching::segments::{are_given_ranges, has_segments, segment_sizes};
+use crate::matching::segments::{are_given_ranges, has_segments, spelled_sizes};
 use crate::thing::{Seen, Thing};
 use mlir_tree::attr::Attr;
 use mlir_tree::row::Row;
@@ -99,7 +99,7 @@ fn has_all_operands(
     if !are_given_ranges(given, exprs) {
         return has_operands(rows, index, given, exprs, r.operands.as_slice());
     }
-    match segment_sizes(r) {
+    match spelled_sizes(r) {
         Some(sizes) => has_segments(rows, index, given, exprs, sizes, r.operands.as_slice()),
         None => false,
     }

@@ -1,7 +1,6 @@
 //! The operands of a row by their segments.
 
-ghost use Rattle.std.specs.Prelude.{◌≡◌, ◌↔◌, ◌×◌, List, map, Some, option_copied, option_map, option_and_then, IsTrue, OnOk};
-ghost use Rattle.mlir_tree.specs.declared.value.Val.{Val as Value};
+ghost use Rattle.std.specs.Prelude.{◌≡◌, ◌↔◌, map, Some, option_copied, option_map, option_and_then, IsTrue};
 ghost use Rattle.segment_sizes.specs.Sizes.{parts};
 ghost use Rattle.segment_sizes.specs.Reading.{segments_in};
 ghost use Rattle.rewrite_model.specs.Ranges as ranges;
@@ -86,7 +85,7 @@ pub fn are_given_ranges(given: &[Thing], exprs: &[Expr]) -> bool
 
 /// The sizes of the segments of the row's operands, as its attribute spells them, where it has segments.
 #[tactic(auto, using(crate::proofs::Segments::no_attribute, crate::proofs::Segments::counted, crate::proofs::Segments::spelled))]
-pub fn segment_sizes(r: &Row) -> Option<&[u8]>
+pub fn spelled_sizes(r: &Row) -> Option<&[u8]>
     ensures { SpellsSegments r.now (option_copied result) }
 {
     let sizes = attribute_of(r, b"operandSegmentSizes")?;
