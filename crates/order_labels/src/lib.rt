@@ -1,0 +1,4 @@
+//! A list of different numbers, compared by place in constant time.
+#![tactic(auto)]
+
+mod links;
