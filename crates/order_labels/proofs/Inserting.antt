@@ -41,12 +41,12 @@ module _ (old new : ℕ → Link) (x at l id : ℕ) (put : Inserts old new x at 
       let parts = split (next_of old) (prev_of old) (label_of old) 0 0 at us vs c in
       let fresh : at ≢ x = λ e. m (in_back x us (at ∷ vs) (inl (sym e))) in
       let front =
-          grown 0 us parts.0 (λ i. omega (arith, not_above (next_of old) (prev_of old) (label_of old) 0 at at us parts.0 i, parts.1)) n
-          (λ i. m (in_front x us (at ∷ vs) i)) in
+      grown 0 us parts.0 (λ i. omega (arith, not_above (next_of old) (prev_of old) (label_of old) 0 at at us parts.0 i, parts.1)) n
+      (λ i. m (in_front x us (at ∷ vs) i)) in
       let back = kept at 0 vs parts.2 parts.1 (omega arith) fresh (λ i. m (in_back x us (at ∷ vs) (inr i))) z n in
       subst (λ ys. New 0 ys 0) (append_assoc us (x ∷ []) (at ∷ vs))
       (joined (next_of new) (prev_of new) (label_of new) 0 0 at (us ++ x ∷ []) vs front
-          (omega (arith, ap (label_of new) put.back_into, put.labelled, put.labels at fresh, high)) back)
+      (omega (arith, ap (label_of new) put.back_into, put.labelled, put.labels at fresh, high)) back)
 
 -- the same last
 pub pushed : (old new : ℕ → Link) (x l id : ℕ) → Inserts old new x 0 l id → label_of old (prev_of old 0) < l → (us : List ℕ)

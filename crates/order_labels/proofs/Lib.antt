@@ -3,3 +3,7 @@ pub mod Lists
 pub mod Chains
 pub mod Inserting
 pub mod Removing
+pub mod Positions
+pub mod Stretches
+pub mod Levels
+pub mod Spreading

@@ -52,7 +52,7 @@ module _ (old new : ℕ → Link) (at : ℕ) (skips : Skips old new at) (low : l
       joined (next_of new) (prev_of new) (label_of new) 0 0 y us vs (subst (New 0 us) next (shrunk 0 us c))
       (omega (arith, ap (label_of new) prev, skips.labels (prev_of old at) prev_not, skips.labels y y_not, low, d.2))
       (behind y 0 vs d.3 (omega (arith, d.2)) (λ z l e. omega (arith, l, ap (label_of old) (e ∙ next)))
-          (λ e. omega (arith, d.2, head, ap (label_of old) (e ∙ next))) (λ e. omega (arith, p, head, ap (label_of old) e)))
+      (λ e. omega (arith, d.2, head, ap (label_of old) (e ∙ next))) (λ e. omega (arith, p, head, ap (label_of old) e)))
 
 pub next_high : (links : ℕ → Link) (at : ℕ) (vs : List ℕ) → IsChain (next_of links) (prev_of links) (label_of links) at vs 0
     → (next_of links at ≡ 0) ⊎ (label_of links at < label_of links (next_of links at))

@@ -1,5 +1,5 @@
 -- What the writes of an edit make of the links.
-use Rattle.std.proofs.Common.{◌≡◌, ◌≢◌, ◌⊎◌, inl, inr, ℕ, Option, Some, None, refl, sym, ap, ◌∙◌, subst}
+use Rattle.std.proofs.Common.{◌≡◌, ◌≢◌, ◌⊎◌, ◌<◌, arith, inl, inr, ℕ, Option, Some, None, refl, sym, ap, ◌∙◌, subst}
 use Rattle.std.specs.Prelude.{IsSome}
 use Rattle.std.proofs.lemmas.Bool.{cases_eq}
 use Rattle.slab.specs.Slab.{Slab, get, Updates, ContainsKey}
@@ -46,3 +46,11 @@ module _ (old one two new : ℕ → Link) (x at p : ℕ) (k : Link) (p_is : p �
     labels = λ y m. last (λ l. l.label) refl y ∙ (middle (λ l. l.label) refl y ∙ ap (λ l. l.label) (s.others y m));
     names = λ y m. last (λ l. l.id) refl y ∙ (middle (λ l. l.id) refl y ∙ ap (λ l. l.id) (s.others y m));
   }
+
+labelled_by : (o : Option Link) → 0 < (link_or o).label → IsSome o
+labelled_by None l = absurd (omega (arith, l))
+labelled_by (Some k) l = refl
+
+-- a slot with a label above 0 holds something
+pub labelled_there : (s : Slab Link) (x : ℕ) → 0 < label_of (link_at s) x → ContainsKey s x
+labelled_there s x l = labelled_by (get s x) l

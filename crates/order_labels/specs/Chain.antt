@@ -1,5 +1,5 @@
 -- Slots that are linked both ways through slot 0, the head, and ordered by labels.
-use Rattle.std.specs.Prelude.{◌≡◌, ◌≢◌, ◌⊎◌, ℕ, zero, suc, ◌+◌, ◌*◌, ◌<◌, ◌≤◌, List, [], ◌∷◌, Option, Some, None}
+use Rattle.std.specs.Prelude.{◌≡◌, ◌≢◌, ◌⊎◌, ℕ, zero, suc, ◌+◌, ◌*◌, ◌<◌, ◌≤◌, ◌==◌, if◌then◌else◌, List, [], ◌∷◌, Option, Some, None}
 use Rattle.slab.specs.Slab.{Slab, get, slab_len, ContainsKey}
 use Rattle.order_labels.specs.declared.links.Link.{Link}
 
@@ -87,3 +87,39 @@ pub record IsOrder (links : ℕ → Link) (count : ℕ) : Type 0 where
   pub head : label_of links 0 ≡ 0
   pub under : (x : ℕ) → label_of links x < top
   pub chain : IsChain (next_of links) (prev_of links) (label_of links) 0 (slots_of links count) 0
+
+-- the label where the gap before a slot ends
+abbrev pub limit_of : (ℕ → Link) → ℕ → ℕ
+limit_of links x = if x == 0 then top else label_of links x
+
+-- The slot is the head, or stands in the list.
+pub record IsPlaced (links : ℕ → Link) (count x : ℕ) : Type 0 where
+  pub place : ℕ
+  pub within : place ≤ count
+  pub here : x ≡ go (next_of links) 0 (suc place)
+
+-- So many slots stand between two others, and the gap before a slot is among or beside them.
+pub record IsStretch (links : ℕ → Link) (count at before len after : ℕ) : Type 0 where
+  pub start : ℕ
+  pub place : ℕ
+  pub within : start + len ≤ count
+  pub from : before ≡ go (next_of links) 0 start
+  pub to : after ≡ go (next_of links) 0 (suc (start + len))
+  pub here : at ≡ go (next_of links) 0 (suc place)
+  pub low : start ≤ place
+  pub high : place ≤ start + len
+
+-- So many slots behind one get labels that are a step apart.
+pub record Spreads (old new : ℕ → Link) (before len base step : ℕ) : Type 0 where
+  pub nexts : (y : ℕ) → next_of new y ≡ next_of old y
+  pub prevs : (y : ℕ) → prev_of new y ≡ prev_of old y
+  pub names : (y : ℕ) → id_of new y ≡ id_of old y
+  pub labels : (i : ℕ) → 1 ≤ i → i ≤ len → label_of new (go (next_of old) before i) ≡ base + i * step
+  pub others : (y : ℕ) → ((i : ℕ) → 1 ≤ i → i ≤ len → y ≢ go (next_of old) before i) → label_of new y ≡ label_of old y
+
+-- Labels change, and nothing else.
+pub record Relabels (old new : ℕ → Link) (count : ℕ) : Type 0 where
+  pub nexts : (y : ℕ) → next_of new y ≡ next_of old y
+  pub prevs : (y : ℕ) → prev_of new y ≡ prev_of old y
+  pub names : (y : ℕ) → id_of new y ≡ id_of old y
+  pub order : IsOrder new count

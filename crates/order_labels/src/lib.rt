@@ -1,4 +1,5 @@
 //! A list of different numbers, compared by place in constant time.
 #![tactic(auto)]
 
+mod gaps;
 mod links;
