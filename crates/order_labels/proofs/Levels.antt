@@ -60,3 +60,8 @@ two_apart width n l = (le-div_iff_mul-le {k = suc n} {x = 2} {y = width} (omega 
 
 pub steps_within : (width n : ℕ) → suc n * (width / suc n) ≤ width
 steps_within width n = omega (arith, div-mul-le_self width (suc n), mul_comm (suc n) (width / suc n))
+
+pub four_within : (k : ℕ) → 1 ≤ k → k ≤ 21 → 4 ^ k < 18446744073709551616
+four_within k l m =
+    let e : suc (k - 1) ≡ k = omega (arith, l) in
+    omega (arith, wide (k - 1), ap (λ n. 4 ^ n) e, ap (λ n. 8 ^ n) e, width_below k m)

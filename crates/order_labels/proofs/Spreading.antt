@@ -4,7 +4,7 @@ use Rattle.std.proofs.Math.Nat.{suc-mul, mul-le-mul_right}
 use Rattle.std.proofs.lemmas.Bool.{cases_eq}
 use Rattle.order_labels.specs.declared.links.Link.{Link}
 use Rattle.order_labels.specs.Chain.{label_of, prev_of, next_of, id_of, go, walk, slots_of, IsChain, IsOrder, IsPlaced, IsStretch, Spreads, Relabels, Sets, limit_of, top}
-use Rattle.order_labels.proofs.Positions.{spot, go_add, found, sides, same_go, same_walk, rise, back, end, not_head, gap_behind, chain_by, limit_head, limit_other, some_label}
+use Rattle.order_labels.proofs.Positions.{spot, go_add, go_next, found, sides, same_go, same_walk, rise, back, end, not_head, gap_behind, chain_by, limit_head, limit_other, some_label}
 use Rattle.order_labels.proofs.Writes.{field_kept}
 
 -- ---- the loop
@@ -167,3 +167,15 @@ placed_same old new count x r p =
 pub slots_same : (old new : ℕ → Link) (count : ℕ) → Relabels old new count → slots_of new count ≡ slots_of old count
 unfolding slots_of
 slots_same old new count r = same_walk (next_of old) (next_of new) r.nexts count 0
+
+-- ---- a turn of the loop
+
+pub next_step : (old now : ℕ → Link) (before n at : ℕ) → at ≡ go (next_of old) before n → ((y : ℕ) → next_of now y ≡ next_of old y) → (k : Link) → k ≡ now at
+    → k.next.0 ≡ go (next_of old) before (suc n)
+next_step old now before n at here nexts k is =
+    ap (λ l. l.next.0) is ∙ (nexts at ∙ (ap (next_of old) here ∙ sym (go_next (next_of old) before n)))
+
+pub label_step : (base n step label : ℕ) → label ≡ base + n * step → label + step ≡ base + (n + 1) * step
+label_step base n step label e =
+    let more : suc n ≡ n + 1 = omega arith in
+    omega (arith, e, suc-mul n step, ap (λ i. i * step) more)

@@ -42,10 +42,24 @@ pub fn label_before(links: &mut Slab<Link>, count: usize, at: Slot) -> u64
     ensures high { result < limit_of (link_at links.new) at.0 }
     ensures room { KeepsRoom links.old links.new }
 {
-    if gap_before(links, count, at) < 2 {
-        relabel(links, count, at);
-    }
+    make_gap(links, count, at);
     label_within(links, count, at)
+}
+
+// Sees to it that there is a label in the gap before a slot.
+#[tactic(auto, using(crate::proofs::Spreading::relabels_none))]
+fn make_gap(links: &mut Slab<Link>, count: usize, at: Slot)
+    requires order { IsOrder (link_at links.old) count }
+    requires few { count ≤ 2 ^ 40 }
+    requires placed { IsPlaced (link_at links.old) count at.0 }
+    ensures relabels { Relabels (link_at links.old) (link_at links.new) count }
+    ensures gap { label_of (link_at links.new) (prev_of (link_at links.new) at.0) + 2 ≤ limit_of (link_at links.new) at.0 }
+    ensures room { KeepsRoom links.old links.new }
+{
+    if gap_before(links, count, at) >= 2 {
+        return;
+    }
+    relabel(links, count, at);
 }
 
 // The label where the gap before a slot ends.
