@@ -49,9 +49,9 @@ pub not_last : (k n : ℕ) → 4 ^ k ≤ n → n ≤ 2 ^ 40 → k < 21
 not_last k n l m = elim (sides k 20) [
   | inl h ↦ omega (arith, h)
   | inr h ↦
-    let e : 21 + (k - 21) ≡ k = omega (arith, h) in
-    let q : 4 ^ 21 * 4 ^ (k - 21) ≡ 4 ^ k = sym (pow-add 4 21 (k - 21)) ∙ ap (λ n. 4 ^ n) e in
-    absurd (omega (arith, l, m, q, mul-le-mul_left {m = 1} {n = 4 ^ (k - 21)} (4 ^ 21) (some_four (k - 21))))
+      let e : 21 + (k - 21) ≡ k = omega (arith, h) in
+      let q : 4 ^ 21 * 4 ^ (k - 21) ≡ 4 ^ k = sym (pow-add 4 21 (k - 21)) ∙ ap (λ n. 4 ^ n) e in
+      absurd (omega (arith, l, m, q, mul-le-mul_left {m = 1} {n = 4 ^ (k - 21)} (4 ^ 21) (some_four (k - 21))))
 ]
 
 -- evenly spread, so many slots are at least two labels apart and stay within the width

@@ -7,3 +7,4 @@ pub mod Positions
 pub mod Stretches
 pub mod Levels
 pub mod Spreading
+pub mod Placing

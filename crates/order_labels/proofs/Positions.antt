@@ -53,9 +53,9 @@ module _ (next : ℕ → ℕ) where
     | inr not ↦ elim (found x a n) [
       | inl f ↦ inl (f.0, f.1, omega (arith, f.2), f.3)
       | inr none ↦ inr (λ i l m e. elim (sides i n) [
-          | inl b ↦ none i l b e
-          | inr b ↦ let same : i ≡ suc n = omega (arith, b, m) in not (e ∙ ap (go next a) same)
-        ])
+        | inl b ↦ none i l b e
+        | inr b ↦ let same : i ≡ suc n = omega (arith, b, m) in not (e ∙ ap (go next a) same)
+      ])
     ]
   ]
 
@@ -138,7 +138,7 @@ module _ (links : ℕ → Link) (count : ℕ) (order : IsOrder links count) wher
   gap_behind i l = elim (sides (suc i) count) [
     | inl m ↦ omega (arith, rise i (suc i) (omega arith) m, limit_other links (spot links (suc i)) (not_head (suc i) (omega arith) m))
     | inr m ↦ let e : suc i ≡ suc count = omega (arith, l, m) in
-      omega (arith, order.under (spot links i), limit_head links (spot links (suc i)) (ap (spot links) e ∙ end))
+        omega (arith, order.under (spot links i), limit_head links (spot links (suc i)) (ap (spot links) e ∙ end))
   ]
 
   pub prev_placed : (x : ℕ) (p : IsPlaced links count x) → prev_of links x ≡ spot links p.place

@@ -29,9 +29,9 @@ module _ (old now new : ℕ → Link) (before len base step label x : ℕ) (s : 
   label_at i l m = elim (sides i len) [
     | inl h ↦ ap (λ k. k.label) (write.others (go (next_of old) before i) (λ e. apart i (omega (arith, h)) (e ∙ x_is))) ∙ s.labels i l h
     | inr h ↦
-      let e : i ≡ suc len = omega (arith, h, m) in
-      let more : len + 1 ≡ i = omega (arith, e) in
-      ap (label_of new) (ap (go (next_of old) before) e ∙ sym x_is) ∙ (ap (λ k. k.label) write.here ∙ (label_is ∙ ap (λ n. base + n * step) more))
+        let e : i ≡ suc len = omega (arith, h, m) in
+        let more : len + 1 ≡ i = omega (arith, e) in
+        ap (label_of new) (ap (go (next_of old) before) e ∙ sym x_is) ∙ (ap (λ k. k.label) write.here ∙ (label_is ∙ ap (λ n. base + n * step) more))
   ]
 
   pub spread_more : Spreads old new before (len + 1) base step
@@ -85,22 +85,22 @@ module _ (old new : ℕ → Link) (count at : ℕ) (order : IsOrder old count) (
   after_kept = elim (sides (suc (s.start + len)) count) [
     | inl m ↦ limit_new after (ap (label_of new) s.to ∙ (behind (suc (s.start + len)) (omega arith) m ∙ sym (ap (label_of old) s.to)))
     | inr m ↦
-      let e : suc (s.start + len) ≡ suc count = omega (arith, m, s.within) in
-      let z : after ≡ 0 = s.to ∙ (ap (spot old) e ∙ end old count order) in
-      limit_head new after z ∙ sym (limit_head old after z)
+        let e : suc (s.start + len) ≡ suc count = omega (arith, m, s.within) in
+        let z : after ≡ 0 = s.to ∙ (ap (spot old) e ∙ end old count order) in
+        limit_head new after z ∙ sym (limit_head old after z)
   ]
 
   -- the gaps in and beside the stretch
   gap_at : (j : ℕ) → j ≤ len → label_of new (spot old (s.start + j)) + step ≤ limit_of new (spot old (suc (s.start + j)))
   gap_at j l = elim (sides (suc j) len) [
     | inl m ↦
-      let e : suc (s.start + j) ≡ s.start + suc j = omega arith in
-      let n = not_head old count order (suc (s.start + j)) (omega arith) (omega (arith, m, s.within)) in
-      omega (arith, at_most j l, inside (suc j) (omega arith) m, more j, ap (λ i. label_of new (spot old i)) e, limit_other new (spot old (suc (s.start + j))) n)
+        let e : suc (s.start + j) ≡ s.start + suc j = omega arith in
+        let n = not_head old count order (suc (s.start + j)) (omega arith) (omega (arith, m, s.within)) in
+        omega (arith, at_most j l, inside (suc j) (omega arith) m, more j, ap (λ i. label_of new (spot old i)) e, limit_other new (spot old (suc (s.start + j))) n)
     | inr m ↦
-      let e : j ≡ len = omega (arith, l, m) in
-      let is : spot old (suc (s.start + j)) ≡ after = ap (λ i. spot old (suc (s.start + i))) e ∙ sym s.to in
-      omega (arith, at_most j l, more j, ap (λ i. suc i * step) e, high, after_kept, ap (limit_of new) is)
+        let e : j ≡ len = omega (arith, l, m) in
+        let is : spot old (suc (s.start + j)) ≡ after = ap (λ i. spot old (suc (s.start + i))) e ∙ sym s.to in
+        omega (arith, at_most j l, more j, ap (λ i. suc i * step) e, high, after_kept, ap (limit_of new) is)
   ]
 
   rise_new : (i : ℕ) → i < count → label_of new (spot old i) < label_of new (spot old (suc i))
@@ -108,9 +108,15 @@ module _ (old new : ℕ → Link) (count at : ℕ) (order : IsOrder old count) (
     | inl m ↦ omega (arith, in_front i (omega (arith, m)), in_front (suc i) m, rise old count order i (suc i) (omega arith) l)
     | inr m ↦ elim (sides i (s.start + len)) [
       | inl k ↦
-        let e : s.start + (i - s.start) ≡ i = omega (arith, m) in
-        omega (arith, gap_at (i - s.start) (omega (arith, k, m)), two, ap (λ j. label_of new (spot old j)) e, ap (λ j. limit_of new (spot old (suc j))) e,
-            limit_other new (spot old (suc i)) (not_head old count order (suc i) (omega arith) l))
+          let e : s.start + (i - s.start) ≡ i = omega (arith, m) in
+          omega (
+            arith,
+            gap_at (i - s.start) (omega (arith, k, m)),
+            two,
+            ap (λ j. label_of new (spot old j)) e,
+            ap (λ j. limit_of new (spot old (suc j))) e,
+            limit_other new (spot old (suc i)) (not_head old count order (suc i) (omega arith) l),
+          )
       | inr k ↦ omega (arith, behind i k (omega (arith, l)), behind (suc i) (omega (arith, k)) l, rise old count order i (suc i) (omega arith) l)
     ]
   ]
@@ -139,22 +145,35 @@ module _ (old new : ℕ → Link) (count at : ℕ) (order : IsOrder old count) (
   gap_made =
       let e : s.start + (s.place - s.start) ≡ s.place = omega (arith, s.low) in
       let is : prev_of new at ≡ spot old s.place = w.prevs at ∙ (ap (prev_of old) s.here ∙ back old count order s.place (omega (arith, s.high, s.within))) in
-      omega (arith, gap_at (s.place - s.start) (omega (arith, s.low, s.high)), two, ap (λ j. label_of new (spot old j)) e, ap (λ j. limit_of new (spot old (suc j))) e,
-          ap (label_of new) is, ap (limit_of new) s.here)
+      omega (
+        arith,
+        gap_at (s.place - s.start) (omega (arith, s.low, s.high)),
+        two,
+        ap (λ j. label_of new (spot old j)) e,
+        ap (λ j. limit_of new (spot old (suc j))) e,
+        ap (label_of new) is,
+        ap (limit_of new) s.here,
+      )
 
 -- ---- what the loop asks
 
 pub spots_apart : (links : ℕ → Link) (count at : ℕ) (order : IsOrder links count) (before len after : ℕ) (s : IsStretch links count at before len after)
     → (i j : ℕ) → i < j → j ≤ len → go (next_of links) before i ≢ go (next_of links) before j
 spots_apart links count at order before len after s i j l m e =
-    omega (arith, rise links count order (s.start + i) (s.start + j) (omega (arith, l)) (omega (arith, m, s.within)),
-        ap (label_of links) (sym (ap (λ b. go (next_of links) b i) s.from ∙ go_add (next_of links) 0 s.start i) ∙ (e ∙ (ap (λ b. go (next_of links) b j) s.from ∙ go_add (next_of links) 0 s.start j))))
+    omega (
+      arith,
+      rise links count order (s.start + i) (s.start + j) (omega (arith, l)) (omega (arith, m, s.within)),
+      ap (label_of links) (sym (ap (λ b. go (next_of links) b i) s.from ∙ go_add (next_of links) 0 s.start i) ∙ (e ∙ (ap (λ b. go (next_of links) b j) s.from ∙ go_add (next_of links) 0 s.start j))),
+    )
 
 pub spots_labelled : (links : ℕ → Link) (count at : ℕ) (order : IsOrder links count) (before len after : ℕ) (s : IsStretch links count at before len after)
     → (i : ℕ) → 1 ≤ i → i ≤ len → 0 < label_of links (go (next_of links) before i)
 spots_labelled links count at order before len after s i l m =
-    omega (arith, some_label links count order (s.start + i) (omega (arith, l)) (omega (arith, m, s.within)),
-        ap (label_of links) (ap (λ b. go (next_of links) b i) s.from ∙ go_add (next_of links) 0 s.start i))
+    omega (
+      arith,
+      some_label links count order (s.start + i) (omega (arith, l)) (omega (arith, m, s.within)),
+      ap (label_of links) (ap (λ b. go (next_of links) b i) s.from ∙ go_add (next_of links) 0 s.start i),
+    )
 
 pub relabels_none : (links : ℕ → Link) (count : ℕ) → IsOrder links count → Relabels links links count
 relabels_none links count order = record { nexts = λ y. refl; prevs = λ y. refl; names = λ y. refl; order = order }

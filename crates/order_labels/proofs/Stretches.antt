@@ -53,7 +53,7 @@ module _ (links : ℕ → Link) (count : ℕ) (order : IsOrder links count) (at 
     some_after bound l m = elim (sides (suc (s.start + len)) count) [
       | inl k ↦ k
       | inr k ↦ let e : suc (s.start + len) ≡ suc count = omega (arith, k, s.within) in
-        absurd (omega (arith, l, m, limit_head links after (s.to ∙ (ap (spot links) e ∙ end links count order))))
+          absurd (omega (arith, l, m, limit_head links after (s.to ∙ (ap (spot links) e ∙ end links count order))))
     ]
 
     next_is : next_of links after ≡ spot links (suc (suc (s.start + len)))
@@ -77,8 +77,13 @@ module _ (links : ℕ → Link) (count : ℕ) (order : IsOrder links count) (at 
     pub rises_after : (bound : ℕ) → limit_of links after < bound → bound ≤ top → limit_of links after < limit_of links (next_of links after)
     rises_after bound l m =
         let some = some_after bound l m in
-        omega (arith, ap (limit_of links) s.to, limit_other links (spot links (suc (s.start + len))) (not_head links count order (suc (s.start + len)) (omega arith) some),
-            gap_behind links count order (suc (s.start + len)) some, ap (limit_of links) next_is)
+        omega (
+          arith,
+          ap (limit_of links) s.to,
+          limit_other links (spot links (suc (s.start + len))) (not_head links count order (suc (s.start + len)) (omega arith) some),
+          gap_behind links count order (suc (s.start + len)) some,
+          ap (limit_of links) next_is,
+        )
 
     pub after_limit : limit_of links after ≤ top
     after_limit = elim (cases_eq after 0) [

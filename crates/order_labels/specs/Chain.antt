@@ -51,6 +51,7 @@ pub record Skips (old new : ℕ → Link) (x : ℕ) : Type 0 where
   pub nexts : (y : ℕ) → y ≢ prev_of old x → y ≢ x → next_of new y ≡ next_of old y
   pub prevs : (y : ℕ) → y ≢ next_of old x → y ≢ x → prev_of new y ≡ prev_of old y
   pub labels : (y : ℕ) → y ≢ x → label_of new y ≡ label_of old y
+  pub gone : new x ≡ no_link
   pub names : (y : ℕ) → y ≢ x → id_of new y ≡ id_of old y
 
 -- The same keys have values, and as many more fit.

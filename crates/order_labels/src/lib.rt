@@ -3,3 +3,6 @@
 
 mod gaps;
 mod links;
+mod order;
+
+pub use order::Labels;

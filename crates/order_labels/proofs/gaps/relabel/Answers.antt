@@ -13,7 +13,7 @@ pub spread-requires-clause-there : goal.spread-requires-clause-there
 spread-requires-clause-there c = λ i l m.
     labelled_there c.args.links.now _
     (spots_labelled (link_at c.args.links.now) c.args.count c.args.at.0 c.requires.order c.uncrowded.result.0.before.0 c.uncrowded.result.0.len c.uncrowded.result.0.after.0
-        c.uncrowded.ensures.stretch i l m)
+    c.uncrowded.ensures.stretch i l m)
 
 pub returns-clause-relabels : goal.returns-clause-relabels
 returns-clause-relabels c =

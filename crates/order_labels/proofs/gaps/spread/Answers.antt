@@ -8,8 +8,13 @@ use Rattle.order_labels.proofs.gaps.spread.Goals as goal
 
 pub overflow_add-label : goal.overflow_add-label
 overflow_add-label c =
-    omega (arith, c.loop-turn.invariant.sum, suc-mul c.loop-turn._turn c.args.step, mul-le-mul_right {m = suc c.loop-turn._turn} {n = c.args.len} c.args.step (omega (arith, c.loop-turn-test.true)),
-        c.requires.top)
+    omega (
+      arith,
+      c.loop-turn.invariant.sum,
+      suc-mul c.loop-turn._turn c.args.step,
+      mul-le-mul_right {m = suc c.loop-turn._turn} {n = c.args.len} c.args.step (omega (arith, c.loop-turn-test.true)),
+      c.requires.top,
+    )
 
 pub set_label-requires : goal.set_label-requires
 set_label-requires c =

@@ -10,7 +10,7 @@ invariant-loop-stretch l = record {
   fits : l.range.base + l.range.width ≤ top;
   width : l.range.width ≡ 8 ^ l.level;
   some : 1 ≤ l.level;
-  last : l.level ≤ 21
+  last : l.level ≤ 21;
 }
 
 abbrev pub decreases-loop-stretch : goal.decreases-loop-stretch
