@@ -8,3 +8,4 @@ pub mod Stretches
 pub mod Levels
 pub mod Spreading
 pub mod Placing
+pub mod Seen

@@ -51,7 +51,7 @@ pub at_there : (s : Slab Link) (count at : ℕ) → IsOrder (link_at s) count �
 at_there s count at order head p = elim (sides (suc p.place) count) [
   | inl l ↦ subst (ContainsKey s) (sym p.here) (spot_there s count order head (suc p.place) l)
   | inr l ↦ let e : suc p.place ≡ suc count = omega (arith, l, p.within) in
-    subst (ContainsKey s) (sym (p.here ∙ (ap (spot (link_at s)) e ∙ end (link_at s) count order))) head
+      subst (ContainsKey s) (sym (p.here ∙ (ap (spot (link_at s)) e ∙ end (link_at s) count order))) head
 ]
 
 pub placed_slot : (links : ℕ → Link) (count at : ℕ) → IsOrder links count → IsPlaced links count at → at ≢ 0 → IsIn at (slots_of links count)
@@ -96,11 +96,11 @@ module _ (old new : ℕ → Link) (count x at l id : ℕ) (order : IsOrder old c
         (pushed old new x l id (subst (λ a. Inserts old new x a l id) e put) (omega (arith, low, ap (λ a. label_of old (prev_of old a)) e)) (slots_of old count) order.chain (λ z. not_zero (sym z)) absent)
         (inl (e, refl))
     | inr n ↦
-      let (us, ws, was) = parted at (slots_of old count) (placed_slot old count at order placed n) in
-      placed_by us (at ∷ ws) was
-      (inserted old new x at l id put low us ws (subst (Ch old) was order.chain) (omega (arith, high, limit_other old at n)) (λ z. not_zero (sym z)) (λ z. n (sym z))
-          (λ i. absent (subst (IsIn x) (sym was) i)))
-      (inr (ws, refl))
+        let (us, ws, was) = parted at (slots_of old count) (placed_slot old count at order placed n) in
+        placed_by us (at ∷ ws) was
+        (inserted old new x at l id put low us ws (subst (Ch old) was order.chain) (omega (arith, high, limit_other old at n)) (λ z. not_zero (sym z)) (λ z. n (sym z))
+        (λ i. absent (subst (IsIn x) (sym was) i)))
+        (inr (ws, refl))
   ]
 
 -- the same after the labels were spread
@@ -174,9 +174,9 @@ module _ (links : ℕ → Link) (count at : ℕ) (order : IsOrder links (count +
           was = was;
           is = is;
           fresh = λ j. elim (in_either at us vs j) [
-              | inl k ↦ omega (arith, low, not_above (next_of links) (prev_of links) (label_of links) 0 at at us front k)
-              | inr k ↦ omega (arith, greater (next_of links) (prev_of links) (label_of links) at 0 at vs back k)
-            ];
+            | inl k ↦ omega (arith, low, not_above (next_of links) (prev_of links) (label_of links) 0 at at us front k)
+            | inr k ↦ omega (arith, greater (next_of links) (prev_of links) (label_of links) at 0 at vs back k)
+          ];
           names = skips.names;
         }
 

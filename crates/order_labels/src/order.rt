@@ -121,3 +121,161 @@ fn make_room(links: &mut Slab<Link>, n: usize) -> Result<(), AllocError>
     }
     Ok(())
 }
+
+// The id of a slot, where it isn't the head.
+fn id_of(links: &Slab<Link>, at: Slot) -> Option<u32>
+    ensures { result ≡ id_at (link_at links.now) at.0 }
+{
+    if at.is_head() {
+        None
+    } else {
+        Some(look(links, at).id)
+    }
+}
+
+impl Labels {
+    /// No id is in the list, and there is room for none. It takes no memory.
+    pub fn new(alloc: Global) -> Self
+        ensures ids { result.ids ≡ [] }
+        ensures spare { result.spare ≡ 0 }
+    {
+        Labels {
+            links: Slab::new(alloc),
+            slots: HashMap::new(alloc),
+            count: 0,
+            spare: 0,
+        }
+    }
+
+    /// Makes room for `n` more ids at least, whichever they are. Where memory fails, or `n` is past all memory, the list and
+    /// its room are as before.
+    pub fn reserve(&mut self, n: usize) -> Result<(), AllocError>
+        ensures ids { self.new.ids ≡ self.old.ids }
+        ensures room { OnOk result (n ≤ self.new.spare) }
+        ensures spare { self.old.spare ≤ self.new.spare }
+        ensures err { OnErr result (self.new ≡ self.old) }
+    {
+        if n > MOST - self.count {
+            return Err(AllocError);
+        }
+        self.slots.reserve(n)?;
+        make_room(&mut self.links, n)?;
+        self.spare = self.spare.max(n);
+        Ok(())
+    }
+
+    /// Puts a new id last. It takes no memory.
+    pub fn push_last(&mut self, id: u32)
+        requires absent { ¬ IsIn id self.old.ids }
+        requires room { 0 < self.old.spare }
+        ensures ids { self.new.ids ≡ self.old.ids ++ id ∷ [] }
+        ensures spare { self.new.spare + 1 ≡ self.old.spare }
+    {
+        let slot = place(&mut self.links, self.count, id, HEAD);
+        enter(&mut self.slots, id, slot);
+        self.count += 1;
+        self.spare -= 1;
+    }
+
+    /// Puts a new id just before `at`. It takes no memory.
+    pub fn insert_before(&mut self, id: u32, at: u32)
+        requires absent { ¬ IsIn id self.old.ids }
+        requires at_in { IsIn at self.old.ids }
+        requires room { 0 < self.old.spare }
+        ensures put { PutsBefore id at self.old.ids self.new.ids }
+        ensures spare { self.new.spare + 1 ≡ self.old.spare }
+    {
+        let at = find(&self.slots, at);
+        let slot = place(&mut self.links, self.count, id, at);
+        enter(&mut self.slots, id, slot);
+        self.count += 1;
+        self.spare -= 1;
+    }
+
+    /// Takes an id out.
+    pub fn remove(&mut self, id: u32)
+        requires { IsIn id self.old.ids }
+        ensures taken { TakesOut id self.old.ids self.new.ids }
+        ensures spare { self.old.spare ≤ self.new.spare }
+    {
+        let at = find(&self.slots, id);
+        self.count -= 1;
+        take(&mut self.links, self.count, at);
+        leave(&mut self.slots, id);
+    }
+
+    /// How the places of two ids compare.
+    pub fn cmp(&self, a: u32, b: u32) -> Ordering
+        requires a_in { IsIn a self.now.ids }
+        requires b_in { IsIn b self.now.ids }
+        ensures { (i j : ℕ) → slice_get self.now.ids i ≡ Some a → slice_get self.now.ids j ≡ Some b → result ≡ nat_cmp i j }
+    {
+        let first = look(&self.links, find(&self.slots, a)).label;
+        let second = look(&self.links, find(&self.slots, b)).label;
+        first.cmp(&second)
+    }
+
+    /// Whether one id stands before another one.
+    pub fn before(&self, a: u32, b: u32) -> bool
+        requires a_in { IsIn a self.now.ids }
+        requires b_in { IsIn b self.now.ids }
+        ensures { (i j : ℕ) → slice_get self.now.ids i ≡ Some a → slice_get self.now.ids j ≡ Some b → result ≡ nat_lt i j }
+    {
+        let first = look(&self.links, find(&self.slots, a)).label;
+        let second = look(&self.links, find(&self.slots, b)).label;
+        first < second
+    }
+
+    /// The first id of the list.
+    pub fn first(&self) -> Option<u32>
+        ensures { result ≡ slice_get self.now.ids 0 }
+    {
+        id_of(&self.links, look(&self.links, HEAD).next)
+    }
+
+    /// The last id of the list.
+    pub fn last(&self) -> Option<u32>
+        ensures { result ≡ last_of self.now.ids }
+    {
+        id_of(&self.links, look(&self.links, HEAD).prev)
+    }
+
+    /// The id just behind one; None at the list's end.
+    pub fn next(&self, id: u32) -> Option<u32>
+        requires { IsIn id self.now.ids }
+        ensures { IsFollowed id self.now.ids result }
+    {
+        let at = find(&self.slots, id);
+        id_of(&self.links, look(&self.links, at).next)
+    }
+
+    /// The id just before one; None at the list's start.
+    pub fn prev(&self, id: u32) -> Option<u32>
+        requires { IsIn id self.now.ids }
+        ensures { IsPreceded id self.now.ids result }
+    {
+        let at = find(&self.slots, id);
+        id_of(&self.links, look(&self.links, at).prev)
+    }
+
+    /// Whether an id is in the list.
+    pub fn contains(&self, id: u32) -> bool
+        ensures { IsTrue result ↔ IsIn id self.now.ids }
+    {
+        self.slots.contains_key(&id)
+    }
+
+    /// How many ids are in the list.
+    pub fn len(&self) -> usize
+        ensures { result ≡ length self.now.ids }
+    {
+        self.count
+    }
+
+    /// No id stands in the list twice. It does nothing.
+    pub fn apart(&self)
+        ensures { IsApart self.now.ids }
+    {
+        let _ = &self.count;
+    }
+}

@@ -25,5 +25,5 @@ returns-clause-places c =
     let r = c.label_before-label.ensures.relabels in
     puts_after (link_at c.args.links.now) (link_at mid) (link_at c.splice.new.links) c.args.count c.splice.result.0 c.args.at.0 c.args.id r
     (puts (link_at mid) (link_at c.splice.new.links) c.args.count c.splice.result.0 c.args.at.0 c.label_before-label.result c.args.id r.order
-        (placed_same (link_at c.args.links.now) (link_at mid) c.args.count c.args.at.0 r c.requires.placed) c.splice.ensures.inserts c.label_before-label.ensures.low c.label_before-label.ensures.high
-        (none_label mid c.splice.result.0 c.splice.ensures.fresh) (differs mid c.splice.result.0 0 c.splice.ensures.fresh (c.label_before-label.ensures.room.keys _ c.requires.head)))
+    (placed_same (link_at c.args.links.now) (link_at mid) c.args.count c.args.at.0 r c.requires.placed) c.splice.ensures.inserts c.label_before-label.ensures.low c.label_before-label.ensures.high
+    (none_label mid c.splice.result.0 c.splice.ensures.fresh) (differs mid c.splice.result.0 0 c.splice.ensures.fresh (c.label_before-label.ensures.room.keys _ c.requires.head)))
