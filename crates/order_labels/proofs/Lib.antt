@@ -9,3 +9,4 @@ pub mod Levels
 pub mod Spreading
 pub mod Placing
 pub mod Seen
+pub mod Keeping

@@ -1,6 +1,7 @@
 -- The list of ids by its slots.
 use Rattle.std.proofs.Common.{◌≡◌, ◌≢◌, ◌⊎◌, inl, inr, ℕ, zero, suc, ◌+◌, ◌-◌, ◌<◌, ◌≤◌, ◌==◌, List, [], ◌∷◌, ◌++◌, map, length, slice_get, Option, Some, None, nat_eq, eq-eqb, ne_eqb, append-nil, refl, sym, ap, ap₂, ◌∙◌, subst, arith}
-use Rattle.std.specs.Prelude.{if◌then◌else◌, IsSome, nat_lt}
+use Rattle.std.specs.Prelude.{if◌then◌else◌, IsSome, nat_lt, cond}
+use Rattle.std.specs.declared.cmp.Ordering.TheVariants.{Less, Equal, Greater}
 use Rattle.std.specs.Ordering.{nat_cmp}
 use Rattle.std.specs.HashMap.{HashMap, get as get_slot}
 use Rattle.std.proofs.lemmas.Bool.{cases_eq}
@@ -13,7 +14,7 @@ use Rattle.order_labels.specs.Lists.{IsIn, IsApart, PutsBefore, TakesOut, IsFoll
 use Rattle.order_labels.specs.Chain.{label_of, prev_of, next_of, id_of, slots_of, IsChain, IsOrder}
 use Rattle.order_labels.specs.Labels.{Finds, Places, Takes, Begins, ids_of, id_at}
 use Rattle.order_labels.proofs.Lists.{in_at, got_in, in_front, in_back, in_grown, in_more, in_middle, mapped_in, unmapped_in, map_same, parted}
-use Rattle.order_labels.proofs.Chains.{split, in_order, apart}
+use Rattle.order_labels.proofs.Chains.{split, in_order, greater, low_start}
 use Rattle.order_labels.proofs.Positions.{ways}
 use Rattle.order_labels.proofs.Placing.{slots_len, slot_not_head}
 
@@ -77,12 +78,12 @@ module _ (old new : ℕ → Link) (count x at id : ℕ) (p : Places old new coun
   ids_is =
       ap (map (id_of new)) p.is
       ∙ (map-append (id_of new) p.us (x ∷ p.vs)
-      ∙ ap₂ (λ as bs. as ++ bs) (map_same (id_of new) (id_of old) p.us (λ y i. p.names y (λ e. p.fresh (subst (λ z. IsIn z (p.us ++ p.vs)) e (in_front y p.us p.vs i)))))
-      (ap₂ (λ a as. a ∷ as) p.named (map_same (id_of new) (id_of old) p.vs (λ y i. p.names y (λ e. p.fresh (subst (λ z. IsIn z (p.us ++ p.vs)) e (in_back y p.us p.vs i)))))))
+      ∙ ap₂ (λ ps qs. ps ++ qs) (map_same (id_of new) (id_of old) p.us (λ y i. p.names y (λ e. p.fresh (subst (λ z. IsIn z (p.us ++ p.vs)) e (in_front y p.us p.vs i)))))
+      (ap₂ (λ a qs. a ∷ qs) p.named (map_same (id_of new) (id_of old) p.vs (λ y i. p.names y (λ e. p.fresh (subst (λ z. IsIn z (p.us ++ p.vs)) e (in_back y p.us p.vs i)))))))
 
   pub put_last : at ≡ 0 → IsOrder old count → ids_of new (count + 1) ≡ ids_of old count ++ id ∷ []
   put_last e order = elim p.begins [
-    | inl b ↦ ids_is ∙ ap₂ (λ as bs. as ++ id ∷ bs) (sym (ids_was ∙ (ap (λ vs. map (id_of old) p.us ++ map (id_of old) vs) b.1 ∙ append-nil (map (id_of old) p.us)))) (ap (map (id_of old)) b.1)
+    | inl b ↦ ids_is ∙ ap₂ (λ ps qs. ps ++ id ∷ qs) (sym (ids_was ∙ (ap (λ vs. map (id_of old) p.us ++ map (id_of old) vs) b.1 ∙ append-nil (map (id_of old) p.us)))) (ap (map (id_of old)) b.1)
     | inr b ↦ absurd (slot_not_head old count order at (subst (IsIn at) (sym (p.was ∙ ap (λ vs. p.us ++ vs) b.1)) (in_middle at p.us b.0)) e)
   ]
 
@@ -145,3 +146,111 @@ take_ids old new count x t = (
 -- the map with other room
 pub finds_same : {S : Type 0} (m n : HashMap ℕ Slot S) (links : ℕ → Link) (xs : List ℕ) → ((q : ℕ) → get_slot nat_eq n q ≡ get_slot nat_eq m q) → Finds m links xs → Finds n links xs
 finds_same m n links xs h f = record { there = λ x i. h (id_of links x) ∙ f.there x i; only = λ id s e. f.only id s (sym (h id) ∙ e) }
+
+-- ---- places
+
+got_mapped : {A B : Type 0} (f : A → B) (xs : List A) (i : ℕ) (y : B) → slice_get (map f xs) i ≡ Some y → (x : A) × (slice_get xs i ≡ Some x) × (f x ≡ y)
+got_mapped f [] i y e = absurd (cc)
+got_mapped f (x ∷ xs) zero y e = (x, refl, same_Some (f x) y e)
+got_mapped f (x ∷ xs) (suc i) y e = got_mapped f xs i y e
+
+pub got_slot : {S : Type 0} (m : HashMap ℕ Slot S) (links : ℕ → Link) (count : ℕ) (f : Finds m links (slots_of links count)) (id i : ℕ) (s : Slot)
+    → slice_get (ids_of links count) i ≡ Some id → get_slot nat_eq m id ≡ Some s → slice_get (slots_of links count) i ≡ Some s.0
+got_slot m links count f id i s e g =
+    let (x, at, is) = got_mapped (id_of links) (slots_of links count) i id e in
+    let same : slot x ≡ s = same_Some (slot x) s (sym (f.there x (got_in (slots_of links count) i x at)) ∙ (ap (get_slot nat_eq m) is ∙ g)) in
+    at ∙ ap (λ t. Some t.0) same
+
+lt_ways : (i j m n : ℕ) → (i < j → m < n) → (j < i → n < m) → (i ≡ j → m ≡ n) → nat_lt m n ≡ nat_lt i j
+lt_ways i j m n f g h = elim (ways i j) [
+  | inl l ↦ let k = f l in grind (arith, nat_tests)
+  | inr r ↦ elim r [ inl l ↦ let k = g l in grind (arith, nat_tests) | inr e ↦ let k = h e in grind (arith, nat_tests) ]
+]
+
+eq_ways : (i j m n : ℕ) → (i < j → m < n) → (j < i → n < m) → (i ≡ j → m ≡ n) → (m == n) ≡ (i == j)
+eq_ways i j m n f g h = elim (ways i j) [
+  | inl l ↦ let k = f l in grind (arith, nat_tests)
+  | inr r ↦ elim r [ inl l ↦ let k = g l in grind (arith, nat_tests) | inr e ↦ let k = h e in grind (arith, nat_tests) ]
+]
+
+module _ (links : ℕ → Link) (count : ℕ) (order : IsOrder links count) (x y i j : ℕ) (at : slice_get (slots_of links count) i ≡ Some x) (bt : slice_get (slots_of links count) j ≡ Some y) where
+  less : i < j → label_of links x < label_of links y
+  less = in_order (next_of links) (prev_of links) (label_of links) 0 0 x y i j (slots_of links count) order.chain at bt
+
+  more : j < i → label_of links y < label_of links x
+  more = in_order (next_of links) (prev_of links) (label_of links) 0 0 y x j i (slots_of links count) order.chain bt at
+
+  same : i ≡ j → label_of links x ≡ label_of links y
+  same e = ap (label_of links) (same_Some x y (sym at ∙ (ap (slice_get (slots_of links count)) e ∙ bt)))
+
+  pub lt_decided : nat_lt (label_of links x) (label_of links y) ≡ nat_lt i j
+  lt_decided = lt_ways i j (label_of links x) (label_of links y) less more same
+
+  pub cmp_decided : nat_cmp (label_of links x) (label_of links y) ≡ nat_cmp i j
+  cmp_decided = ap₂ (λ p q. cond p Less (cond q Equal Greater)) lt_decided (eq_ways i j (label_of links x) (label_of links y) less more same)
+
+-- ---- neighbours
+
+at_head : (links : ℕ → Link) (x : ℕ) → x ≡ 0 → id_at links x ≡ None
+at_head links x e = ap (λ b. if b then None else Some (id_of links x)) (eq-eqb x 0 e)
+
+at_slot : (links : ℕ → Link) (x : ℕ) → x ≢ 0 → id_at links x ≡ Some (id_of links x)
+at_slot links x n = ap (λ b. if b then None else Some (id_of links x)) (ne_eqb x 0 n)
+
+pub next_id : (links : ℕ → Link) (a : ℕ) (xs : List ℕ) → IsChain (next_of links) (prev_of links) (label_of links) a xs 0 → ((x : ℕ) → IsIn x xs → x ≢ 0)
+    → id_at links (next_of links a) ≡ slice_get (map (id_of links) xs) 0
+next_id links a [] c n = at_head links (next_of links a) c.0
+next_id links a (x ∷ xs) c n = ap (id_at links) c.0 ∙ at_slot links x (n x (inl refl))
+
+last_got : (links : ℕ → Link) (a b x : ℕ) (xs : List ℕ) → IsChain (next_of links) (prev_of links) (label_of links) a (x ∷ xs) b
+    → slice_get (map (id_of links) (x ∷ xs)) (length xs) ≡ Some (id_of links (prev_of links b))
+last_got links a b x [] c = ap (λ y. Some (id_of links y)) (sym c.3.1)
+last_got links a b x (y ∷ ys) c = last_got links x b y ys c.3
+
+last_is : (links : ℕ → Link) (x : ℕ) (xs : List ℕ) → length (map (id_of links) (x ∷ xs)) - 1 ≡ length xs
+last_is links x xs = omega (arith, length-map (x ∷ xs) (id_of links))
+
+pub prev_id : (links : ℕ → Link) (b : ℕ) (xs : List ℕ) → label_of links 0 ≡ 0 → IsChain (next_of links) (prev_of links) (label_of links) 0 xs b
+    → id_at links (prev_of links b) ≡ last_of (map (id_of links) xs)
+prev_id links b [] z c = at_head links (prev_of links b) c.1
+prev_id links b (x ∷ xs) z c =
+    at_slot links (prev_of links b) (λ e. omega (arith, z, c.2, low_start (next_of links) (prev_of links) (label_of links) x b xs c.3, ap (label_of links) e))
+    ∙ (sym (last_got links 0 b x xs c) ∙ ap (slice_get (map (id_of links) (x ∷ xs))) (sym (last_is links x xs)))
+
+module _ (links : ℕ → Link) (count : ℕ) (order : IsOrder links count) (ids : List ℕ) (ids_are : ids_of links count ≡ ids) where
+  pub first_is : id_at links (next_of links 0) ≡ slice_get ids 0
+  first_is = next_id links 0 (slots_of links count) order.chain (slot_not_head links count order) ∙ ap (λ xs. slice_get xs 0) ids_are
+
+  pub last_id : id_at links (prev_of links 0) ≡ last_of ids
+  last_id = prev_id links 0 (slots_of links count) order.head order.chain ∙ ap last_of ids_are
+
+  pub followed : (x : ℕ) → IsIn x (slots_of links count) → IsFollowed (id_of links x) ids (id_at links (next_of links x))
+  followed x i =
+      let (us, vs, was) = parted x (slots_of links count) i in
+      let p = split (next_of links) (prev_of links) (label_of links) 0 0 x us vs (subst (λ xs. IsChain (next_of links) (prev_of links) (label_of links) 0 xs 0) was order.chain) in (
+        map (id_of links) us,
+        map (id_of links) vs,
+        sym ids_are ∙ (ap (map (id_of links)) was ∙ map-append (id_of links) us (x ∷ vs)),
+        next_id links x vs p.2 (λ y j. slot_not_head links count order y (subst (IsIn y) (sym was) (in_back y us (x ∷ vs) (inr j)))),
+      )
+
+  pub preceded : (x : ℕ) → IsIn x (slots_of links count) → IsPreceded (id_of links x) ids (id_at links (prev_of links x))
+  preceded x i =
+      let (us, vs, was) = parted x (slots_of links count) i in
+      let p = split (next_of links) (prev_of links) (label_of links) 0 0 x us vs (subst (λ xs. IsChain (next_of links) (prev_of links) (label_of links) 0 xs 0) was order.chain) in (
+        map (id_of links) us,
+        map (id_of links) vs,
+        sym ids_are ∙ (ap (map (id_of links)) was ∙ map-append (id_of links) us (x ∷ vs)),
+        prev_id links x us order.head p.0,
+      )
+
+pub apart_ids : {S : Type 0} (m : HashMap ℕ Slot S) (links : ℕ → Link) (a : ℕ) (xs : List ℕ) → IsChain (next_of links) (prev_of links) (label_of links) a xs 0
+    → ((x : ℕ) → IsIn x xs → get_slot nat_eq m (id_of links x) ≡ Some (slot x)) → IsApart (map (id_of links) xs)
+apart_ids m links a [] c f = tt
+apart_ids m links a (x ∷ xs) c f = (
+  λ i.
+      let (y, j, e) = unmapped_in (id_of links) (id_of links x) xs i in
+      let is : y ≡ x = ap (λ s. s.0) (same_Some (slot y) (slot x) (sym (f y (inr j)) ∙ (ap (get_slot nat_eq m) e ∙ f x (inl refl)))) in
+      omega (arith, greater (next_of links) (prev_of links) (label_of links) x 0 y xs c.3 j, ap (label_of links) is),
+  apart_ids m links x xs c.3 (λ y i. f y (inr i)),
+)
