@@ -1,5 +1,5 @@
 -- What each edit keeps.
-use Rattle.std.proofs.Common.{◌≡◌, ◌≢◌, ◌⊎◌, inl, inr, ℕ, ◌+◌, ◌-◌, ◌<◌, ◌≤◌, ◌^◌, List, [], Option, Some, None, nat_eq, refl, sym, ap, ◌∙◌, subst, arith}
+use Rattle.std.proofs.Common.{◌≡◌, ◌≢◌, ◌⊎◌, inl, inr, ℕ, ◌+◌, ◌-◌, ◌<◌, ◌≤◌, ◌^◌, List, [], ◌∷◌, length, Option, Some, None, nat_eq, refl, sym, ap, ◌∙◌, subst, arith}
 use Rattle.std.specs.Prelude.{IsSome}
 use Rattle.std.specs.Map.{lookup}
 use Rattle.std.specs.HashMap.{HashMap, get as get_slot, spare as room_of}
@@ -82,3 +82,7 @@ no_labels links m empty first none =
       room = omega arith;
       few = omega arith;
     }
+
+pub some_in : (x : ℕ) (xs : List ℕ) → IsIn x xs → 0 < length xs
+some_in x [] i = absurd i
+some_in x (y ∷ ys) i = omega arith
