@@ -1,5 +1,5 @@
 -- A chain with one slot more.
-use Rattle.std.proofs.Common.{◌≡◌, ◌≢◌, ◌⊎◌, inl, inr, ℕ, zero, suc, ◌+◌, ◌<◌, ◌≤◌, List, [], ◌∷◌, ◌++◌, append_assoc, refl, sym, ap, ◌∙◌, subst, arith}
+use Rattle.std.proofs.Common.{◌≡◌, ◌≢◌, inl, inr, ℕ, ◌<◌, ◌≤◌, List, [], ◌∷◌, ◌++◌, append_assoc, sym, ap, ◌∙◌, subst, arith}
 use Rattle.order_labels.specs.declared.links.Link.{Link}
 use Rattle.order_labels.specs.Lists.{IsIn}
 use Rattle.order_labels.specs.Chain.{label_of, prev_of, next_of, IsChain, Inserts}

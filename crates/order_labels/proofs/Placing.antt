@@ -1,18 +1,18 @@
 -- The order after a slot is put in or taken out.
-use Rattle.std.proofs.Common.{◌≡◌, ◌≢◌, ◌⊎◌, inl, inr, ℕ, zero, suc, ◌+◌, ◌<◌, ◌≤◌, List, [], ◌∷◌, ◌++◌, length, Option, Some, None, length-append, append-nil, refl, sym, ap, ◌∙◌, subst, arith}
+use Rattle.std.proofs.Common.{◌≡◌, ◌≢◌, ◌⊎◌, inl, inr, ℕ, zero, suc, ◌+◌, ◌<◌, ◌≤◌, List, [], ◌∷◌, ◌++◌, length, None, length-append, append-nil, refl, sym, ap, ◌∙◌, subst, arith}
 use Rattle.std.proofs.lemmas.Bool.{cases_eq}
 use Rattle.slab.specs.Slab.{Slab, get, ContainsKey}
 use Rattle.order_labels.specs.declared.links.Link.{Link}
 use Rattle.order_labels.specs.Lists.{IsIn}
-use Rattle.order_labels.specs.Chain.{link_at, link_or, label_of, prev_of, next_of, id_of, go, walk, slots_of, IsChain, IsOrder, IsPlaced, Inserts, Skips, Relabels, limit_of, top}
+use Rattle.order_labels.specs.Chain.{link_at, link_or, label_of, prev_of, next_of, walk, slots_of, IsChain, IsOrder, IsPlaced, Inserts, Skips, Relabels, limit_of, top}
 use Rattle.order_labels.specs.Labels.{Places, Takes, Begins}
-use Rattle.order_labels.proofs.Lists.{parted, in_either, in_middle}
+use Rattle.order_labels.proofs.Lists.{parted, in_either}
 use Rattle.order_labels.proofs.Chains.{walk_len, walked, split, greater, not_above, last_in}
 use Rattle.order_labels.proofs.Inserting.{inserted, pushed}
 use Rattle.order_labels.proofs.Removing.{removed, next_high}
-use Rattle.order_labels.proofs.Positions.{spot, sides, positive, some_label, end, prev_placed, limit_head, limit_other, spot_in}
-use Rattle.order_labels.proofs.Spreading.{slots_same, placed_same}
-use Rattle.order_labels.proofs.Writes.{labelled_there, differs}
+use Rattle.order_labels.proofs.Positions.{spot, sides, some_label, end, prev_placed, limit_head, limit_other, spot_in}
+use Rattle.order_labels.proofs.Spreading.{slots_same}
+use Rattle.order_labels.proofs.Writes.{labelled_there}
 
 abbrev Ch : (ℕ → Link) → List ℕ → Type 0
 Ch links xs = IsChain (next_of links) (prev_of links) (label_of links) 0 xs 0

@@ -1,7 +1,6 @@
 -- A chain without one of its slots.
-use Rattle.std.proofs.Common.{◌≡◌, ◌≢◌, ◌⊎◌, inl, inr, ℕ, zero, suc, ◌+◌, ◌<◌, ◌≤◌, List, [], ◌∷◌, ◌++◌, append-nil, refl, sym, ap, ◌∙◌, subst, arith}
+use Rattle.std.proofs.Common.{◌≡◌, ◌≢◌, ◌⊎◌, inl, inr, ℕ, ◌<◌, List, [], ◌∷◌, ◌++◌, append-nil, sym, ap, ◌∙◌, subst, arith}
 use Rattle.order_labels.specs.declared.links.Link.{Link}
-use Rattle.order_labels.specs.Lists.{IsIn}
 use Rattle.order_labels.specs.Chain.{label_of, prev_of, next_of, IsChain, Skips}
 use Rattle.order_labels.proofs.Chains.{joined, low_start}
 

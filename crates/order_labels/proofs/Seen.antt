@@ -1,5 +1,5 @@
 -- The list of ids by its slots.
-use Rattle.std.proofs.Common.{◌≡◌, ◌≢◌, ◌⊎◌, inl, inr, ℕ, zero, suc, ◌+◌, ◌-◌, ◌<◌, ◌≤◌, ◌==◌, List, [], ◌∷◌, ◌++◌, map, length, slice_get, Option, Some, None, nat_eq, eq-eqb, ne_eqb, append-nil, refl, sym, ap, ap₂, ◌∙◌, subst, arith}
+use Rattle.std.proofs.Common.{◌≡◌, ◌≢◌, inl, inr, ℕ, zero, suc, ◌+◌, ◌-◌, ◌<◌, ◌==◌, List, [], ◌∷◌, ◌++◌, map, length, slice_get, Option, Some, None, nat_eq, eq-eqb, ne_eqb, append-nil, refl, sym, ap, ap₂, ◌∙◌, subst, arith}
 use Rattle.std.specs.Prelude.{if◌then◌else◌, IsSome, nat_lt, cond}
 use Rattle.std.specs.declared.cmp.Ordering.TheVariants.{Less, Equal, Greater}
 use Rattle.std.specs.Ordering.{nat_cmp}
@@ -12,11 +12,11 @@ use Rattle.order_labels.specs.declared.links.Link.{Link}
 use Rattle.order_labels.specs.declared.links.Slot.{Slot}
 use Rattle.order_labels.specs.Lists.{IsIn, IsApart, PutsBefore, TakesOut, IsFollowed, IsPreceded, last_of}
 use Rattle.order_labels.specs.Chain.{label_of, prev_of, next_of, id_of, slots_of, IsChain, IsOrder}
-use Rattle.order_labels.specs.Labels.{Finds, Places, Takes, Begins, ids_of, id_at}
-use Rattle.order_labels.proofs.Lists.{in_at, got_in, in_front, in_back, in_grown, in_more, in_middle, mapped_in, unmapped_in, map_same, parted}
+use Rattle.order_labels.specs.Labels.{Finds, Places, Takes, ids_of, id_at}
+use Rattle.order_labels.proofs.Lists.{got_in, in_front, in_back, in_grown, in_more, in_middle, mapped_in, unmapped_in, map_same, parted}
 use Rattle.order_labels.proofs.Chains.{split, in_order, greater, low_start}
 use Rattle.order_labels.proofs.Positions.{ways}
-use Rattle.order_labels.proofs.Placing.{slots_len, slot_not_head}
+use Rattle.order_labels.proofs.Placing.{slot_not_head}
 
 abbrev pub slot : ℕ → Slot
 slot x = record { 0 = x }
@@ -58,13 +58,13 @@ module _ {S : Type 0} (m n : HashMap ℕ Slot S) (old new : ℕ → Link) (count
   only_new : (k : ℕ) (s : Slot) → get_slot nat_eq n k ≡ Some s → IsIn s.0 (p.us ++ x ∷ p.vs) × (id_of new s.0 ≡ k)
   only_new k s e = elim (cases_eq k id) [
     | inl is ↦
-      let same : slot x ≡ s = same_Some (slot x) s (sym here ∙ (sym (ap (get_slot nat_eq n) is) ∙ e)) in
-      let num : x ≡ s.0 = ap (λ t. t.0) same in
-      (subst (λ y. IsIn y (p.us ++ x ∷ p.vs)) num (in_middle x p.us p.vs), ap (id_of new) (sym num) ∙ (p.named ∙ sym is))
+        let same : slot x ≡ s = same_Some (slot x) s (sym here ∙ (sym (ap (get_slot nat_eq n) is) ∙ e)) in
+        let num : x ≡ s.0 = ap (λ t. t.0) same in
+        (subst (λ y. IsIn y (p.us ++ x ∷ p.vs)) num (in_middle x p.us p.vs), ap (id_of new) (sym num) ∙ (p.named ∙ sym is))
     | inr not ↦
-      let (i, is) = f.only k s (sym (others k not) ∙ e) in
-      let j = subst (IsIn s.0) p.was i in
-      (in_more x s.0 p.us p.vs j, p.names s.0 (not_new s.0 j) ∙ is)
+        let (i, is) = f.only k s (sym (others k not) ∙ e) in
+        let j = subst (IsIn s.0) p.was i in
+        (in_more x s.0 p.us p.vs j, p.names s.0 (not_new s.0 j) ∙ is)
   ]
 
   pub put_finds : Finds n new (slots_of new (count + 1))
@@ -118,11 +118,11 @@ module _ {S : Type 0} (m n : HashMap ℕ Slot S) (old new : ℕ → Link) (count
   only_left k s e = elim (cases_eq k (id_of old x)) [
     | inl is ↦ let bad : None ≡ Some s = sym none ∙ (sym (ap (get_slot nat_eq n) is) ∙ e) in absurd (cc)
     | inr not ↦
-      let (i, is) = f.only k s (sym (others k not) ∙ e) in
-      elim (in_grown x s.0 t.us t.vs (subst (IsIn s.0) t.was i)) [
-        | inl z ↦ absurd (not (sym is ∙ ap (id_of old) z))
-        | inr j ↦ (j, t.names s.0 (not_gone s.0 j) ∙ is)
-      ]
+        let (i, is) = f.only k s (sym (others k not) ∙ e) in
+        elim (in_grown x s.0 t.us t.vs (subst (IsIn s.0) t.was i)) [
+          | inl z ↦ absurd (not (sym is ∙ ap (id_of old) z))
+          | inr j ↦ (j, t.names s.0 (not_gone s.0 j) ∙ is)
+        ]
   ]
 
   pub take_finds : Finds n new (slots_of new count)
@@ -139,8 +139,8 @@ take_ids old new count x t = (
   map (id_of old) t.vs,
   ap (map (id_of old)) t.was ∙ map-append (id_of old) t.us (x ∷ t.vs),
   ap (map (id_of new)) t.is
-  ∙ (map_same (id_of new) (id_of old) (t.us ++ t.vs) (λ y i. t.names y (λ e. t.fresh (subst (λ z. IsIn z (t.us ++ t.vs)) e i)))
-  ∙ map-append (id_of old) t.us t.vs),
+      ∙ (map_same (id_of new) (id_of old) (t.us ++ t.vs) (λ y i. t.names y (λ e. t.fresh (subst (λ z. IsIn z (t.us ++ t.vs)) e i)))
+      ∙ map-append (id_of old) t.us t.vs),
 )
 
 -- the map with other room

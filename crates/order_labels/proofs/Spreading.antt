@@ -1,10 +1,10 @@
 -- Labels that are spread anew.
-use Rattle.std.proofs.Common.{◌≡◌, ◌≢◌, ◌⊎◌, inl, inr, ℕ, zero, suc, ◌+◌, ◌-◌, ◌*◌, ◌<◌, ◌≤◌, List, refl, sym, ap, ◌∙◌, subst, arith}
+use Rattle.std.proofs.Common.{◌≡◌, ◌≢◌, inl, inr, ℕ, zero, suc, ◌+◌, ◌-◌, ◌*◌, ◌<◌, ◌≤◌, refl, sym, ap, ◌∙◌, arith}
 use Rattle.std.proofs.Math.Nat.{suc-mul, mul-le-mul_right}
 use Rattle.std.proofs.lemmas.Bool.{cases_eq}
 use Rattle.order_labels.specs.declared.links.Link.{Link}
-use Rattle.order_labels.specs.Chain.{label_of, prev_of, next_of, id_of, go, walk, slots_of, IsChain, IsOrder, IsPlaced, IsStretch, Spreads, Relabels, Sets, limit_of, top}
-use Rattle.order_labels.proofs.Positions.{spot, go_add, go_next, found, sides, same_go, same_walk, rise, back, end, not_head, gap_behind, chain_by, limit_head, limit_other, some_label}
+use Rattle.order_labels.specs.Chain.{label_of, prev_of, next_of, go, slots_of, IsOrder, IsPlaced, IsStretch, Spreads, Relabels, Sets, limit_of, top}
+use Rattle.order_labels.proofs.Positions.{spot, go_add, go_next, found, sides, same_go, same_walk, rise, back, end, not_head, chain_by, limit_head, limit_other, some_label}
 use Rattle.order_labels.proofs.Writes.{field_kept}
 
 -- ---- the loop

@@ -1,8 +1,8 @@
 -- Stretches of slots that grow.
-use Rattle.std.proofs.Common.{◌≡◌, ◌≢◌, ◌⊎◌, inl, inr, ℕ, zero, suc, ◌+◌, ◌-◌, ◌<◌, ◌≤◌, refl, sym, ap, ◌∙◌, subst, arith}
+use Rattle.std.proofs.Common.{◌≡◌, inl, inr, ℕ, suc, ◌+◌, ◌-◌, ◌<◌, ◌≤◌, sym, ap, ◌∙◌, arith}
 use Rattle.std.proofs.lemmas.Bool.{cases_eq}
 use Rattle.order_labels.specs.declared.links.Link.{Link}
-use Rattle.order_labels.specs.Chain.{label_of, prev_of, next_of, go, IsOrder, IsPlaced, IsStretch, limit_of, top}
+use Rattle.order_labels.specs.Chain.{label_of, prev_of, next_of, IsOrder, IsPlaced, IsStretch, limit_of, top}
 use Rattle.order_labels.proofs.Positions.{spot, go_next, positive, sides, rise, back, end, not_head, gap_behind, limit_head, limit_other}
 
 module _ (links : ℕ → Link) (count : ℕ) (order : IsOrder links count) (at : ℕ) where

@@ -1,10 +1,10 @@
 -- What the writes of an edit make of the links.
-use Rattle.std.proofs.Common.{◌≡◌, ◌≢◌, ◌⊎◌, ◌<◌, arith, inl, inr, ℕ, Option, Some, None, refl, sym, ap, ◌∙◌, subst}
+use Rattle.std.proofs.Common.{◌≡◌, ◌≢◌, ◌<◌, arith, inl, inr, ℕ, Option, Some, None, refl, sym, ap, ◌∙◌, subst}
 use Rattle.std.specs.Prelude.{IsSome}
 use Rattle.std.proofs.lemmas.Bool.{cases_eq}
 use Rattle.slab.specs.Slab.{Slab, get, Updates, ContainsKey}
 use Rattle.order_labels.specs.declared.links.Link.{Link}
-use Rattle.order_labels.specs.Chain.{link_at, link_or, label_of, id_of, prev_of, next_of, Sets, Inserts}
+use Rattle.order_labels.specs.Chain.{link_at, link_or, label_of, prev_of, next_of, Sets, Inserts}
 
 -- what a write writes back is the same everywhere
 pub field_kept : {B : Type 0} (f : Link → B) (old new : ℕ → Link) (x : ℕ) (k : Link) → Sets old new x k → f k ≡ f (old x) → (y : ℕ) → f (new y) ≡ f (old y)

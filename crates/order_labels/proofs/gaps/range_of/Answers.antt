@@ -1,4 +1,4 @@
-use Rattle.std.proofs.Common.{◌≡◌, ◌+◌, ◌*◌, ◌/◌, ◌≤◌, ◌^◌, ℕ, subst, sym, arith}
+use Rattle.std.proofs.Common.{◌+◌, ◌*◌, ◌/◌, ◌≤◌, ℕ, subst, sym, arith}
 use Rattle.order_labels.specs.Chain.{top}
 use Rattle.order_labels.proofs.Levels.{some_width, width_below, aligned}
 use Rattle.order_labels.proofs.gaps.range_of.Goals as goal

@@ -1,5 +1,5 @@
-use Rattle.std.proofs.Common.{◌≡◌, ◌<◌, ◌≤◌, ◌+◌, ◌*◌, ◌/◌, suc, ap, sym, subst, ◌∙◌, arith}
-use Rattle.order_labels.specs.Chain.{link_at, Spreads}
+use Rattle.std.proofs.Common.{◌≡◌, ◌≤◌, ◌+◌, ◌*◌, ◌/◌, suc, ap, sym, arith}
+use Rattle.order_labels.specs.Chain.{link_at}
 use Rattle.order_labels.proofs.Writes.{labelled_there}
 use Rattle.order_labels.proofs.Levels.{two_apart, steps_within}
 use Rattle.order_labels.proofs.Spreading.{spots_apart, spots_labelled, relabelled, gap_made}

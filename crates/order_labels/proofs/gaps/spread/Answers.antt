@@ -1,9 +1,8 @@
-use Rattle.std.proofs.Common.{◌≡◌, ◌<◌, ◌≤◌, ◌+◌, ◌*◌, ℕ, suc, ap, sym, subst, ◌∙◌, arith}
+use Rattle.std.proofs.Common.{◌≡◌, ◌+◌, suc, ap, sym, subst, ◌∙◌, arith}
 use Rattle.std.proofs.Math.Nat.{suc-mul, mul-le-mul_right}
 use Rattle.slab.specs.Slab.{ContainsKey}
 use Rattle.order_labels.specs.Chain.{link_at, next_of, go}
-use Rattle.order_labels.proofs.Positions.{go_next}
-use Rattle.order_labels.proofs.Spreading.{spread_none, spread_more, next_step, label_step}
+use Rattle.order_labels.proofs.Spreading.{spread_more, next_step, label_step}
 use Rattle.order_labels.proofs.gaps.spread.Goals as goal
 
 pub overflow_add-label : goal.overflow_add-label

@@ -1,7 +1,7 @@
-use Rattle.std.proofs.Common.{◌≡◌, ◌<◌, ◌≤◌, ◌+◌, ◌-◌, ◌*◌, ◌^◌, suc, ap, sym, subst, arith}
-use Rattle.order_labels.specs.Chain.{link_at, limit_of, IsStretch}
+use Rattle.std.proofs.Common.{◌≡◌, ◌-◌, ◌^◌, suc, ap, sym, subst, arith}
+use Rattle.order_labels.specs.Chain.{link_at, IsStretch}
 use Rattle.order_labels.proofs.Stretches.{first_stretch}
-use Rattle.order_labels.proofs.Levels.{wide, width_below, not_last, four_within}
+use Rattle.order_labels.proofs.Levels.{wide, four_within}
 use Rattle.order_labels.proofs.gaps.uncrowded.Goals as goal
 
 pub widened-stretch-requires-clause-stretch : goal.widened-stretch-requires-clause-stretch

@@ -1,6 +1,6 @@
-use Rattle.std.proofs.Common.{◌≡◌, ◌<◌, ◌+◌, ap, sym, subst, arith}
+use Rattle.std.proofs.Common.{◌+◌, ap, sym, subst, arith}
 use Rattle.order_labels.specs.Chain.{link_at, limit_of, IsStretch}
-use Rattle.order_labels.proofs.Stretches.{one_after, rises_after, after_limit}
+use Rattle.order_labels.proofs.Stretches.{one_after, rises_after}
 use Rattle.order_labels.proofs.gaps.with_back.Goals as goal
 
 pub loop-after-smaller : goal.loop-after-smaller

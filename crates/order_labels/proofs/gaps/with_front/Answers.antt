@@ -1,4 +1,4 @@
-use Rattle.std.proofs.Common.{◌≡◌, ◌<◌, ◌+◌, ap, sym, subst, arith}
+use Rattle.std.proofs.Common.{◌+◌, ap, sym, subst, arith}
 use Rattle.order_labels.specs.Chain.{link_at, label_of, IsStretch}
 use Rattle.order_labels.proofs.Stretches.{one_before, falls_before}
 use Rattle.order_labels.proofs.gaps.with_front.Goals as goal

@@ -1,5 +1,5 @@
-use Rattle.std.proofs.Common.{ap, refl, subst, ◌∙◌, ◌≡◌, sym}
-use Rattle.slab.specs.Slab.{ContainsKey, get}
+use Rattle.std.proofs.Common.{ap, refl, subst, sym}
+use Rattle.slab.specs.Slab.{ContainsKey}
 use Rattle.order_labels.specs.Chain.{link_at}
 use Rattle.order_labels.proofs.Writes.{inserts, updated, differs}
 use Rattle.order_labels.proofs.links.splice.Goals as goal

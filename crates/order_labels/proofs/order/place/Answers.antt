@@ -1,5 +1,3 @@
-use Rattle.std.proofs.Common.{sym, subst}
-use Rattle.slab.specs.Slab.{ContainsKey}
 use Rattle.order_labels.specs.Chain.{link_at}
 use Rattle.order_labels.proofs.Writes.{differs}
 use Rattle.order_labels.proofs.Spreading.{placed_same}

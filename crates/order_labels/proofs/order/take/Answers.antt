@@ -1,5 +1,5 @@
-use Rattle.std.proofs.Common.{◌≡◌, ◌<◌, ◌⊎◌, inl, inr, sym, subst, arith}
-use Rattle.order_labels.specs.Chain.{link_at, label_of, next_of}
+use Rattle.std.proofs.Common.{sym}
+use Rattle.order_labels.specs.Chain.{link_at}
 use Rattle.order_labels.proofs.Writes.{labelled_there}
 use Rattle.order_labels.proofs.Placing.{slot_label, slot_not_head, key_there, prev_either, next_either, not_prev, not_next, takes}
 use Rattle.order_labels.proofs.order.take.Goals as goal

@@ -1,9 +1,8 @@
-use Rattle.std.proofs.Common.{◌≡◌, ◌∙◌, Some, nat_eq, sym, subst, ap, ap₂}
+use Rattle.std.proofs.Common.{◌≡◌, ◌∙◌, Some, sym, subst, ap₂}
 use Rattle.std.specs.Prelude.{slice_get, nat_lt}
-use Rattle.std.specs.Ordering.{nat_cmp}
 use Rattle.order_labels.specs.Lists.{IsIn}
-use Rattle.order_labels.specs.Chain.{link_at, label_of}
-use Rattle.order_labels.proofs.Seen.{known_some, got_slot, lt_decided, cmp_decided}
+use Rattle.order_labels.specs.Chain.{link_at}
+use Rattle.order_labels.proofs.Seen.{known_some, got_slot, lt_decided}
 use Rattle.order_labels.proofs.order.Labels.before.Goals as goal
 
 pub find-requires : goal.find-requires

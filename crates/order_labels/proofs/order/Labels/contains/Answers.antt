@@ -1,4 +1,4 @@
-use Rattle.std.proofs.Common.{◌≡◌, ◌∙◌, nat_eq, sym, subst, ap, refl}
+use Rattle.std.proofs.Common.{◌∙◌, nat_eq, sym, subst, refl}
 use Rattle.std.specs.HashMap.{get as get_slot}
 use Rattle.order_labels.specs.Lists.{IsIn}
 use Rattle.order_labels.specs.Chain.{link_at}

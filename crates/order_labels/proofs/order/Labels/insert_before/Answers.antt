@@ -1,4 +1,4 @@
-use Rattle.std.proofs.Common.{◌≡◌, ◌∙◌, ◌∷◌, ◌++◌, [], ◌+◌, nat_eq, sym, subst, ap, refl, arith}
+use Rattle.std.proofs.Common.{◌+◌, sym, subst, ap, arith}
 use Rattle.order_labels.specs.Lists.{IsIn, PutsBefore}
 use Rattle.order_labels.specs.Chain.{link_at}
 use Rattle.order_labels.specs.Labels.{ids_of}
@@ -30,5 +30,5 @@ returns-clause-put c =
     let (i, is) = c.self.invariant.finds.only c.args.at c.find-at.result c.find-at.ensures in
     subst (λ v. PutsBefore c.args.id c.args.at v.ids (ids_of (link_at c.place-slot.new.links) (n + 1))) c.self.view_is
     (subst (λ y. PutsBefore c.args.id y (ids_of l n) (ids_of (link_at c.place-slot.new.links) (n + 1))) is
-        (put_before l (link_at c.place-slot.new.links) n c.place-slot.result.0 c.find-at.result.0 c.args.id c.place-slot.ensures.places
-            (slot_not_head l n c.self.invariant.order c.find-at.result.0 i)))
+    (put_before l (link_at c.place-slot.new.links) n c.place-slot.result.0 c.find-at.result.0 c.args.id c.place-slot.ensures.places
+    (slot_not_head l n c.self.invariant.order c.find-at.result.0 i)))

@@ -1,4 +1,4 @@
-use Rattle.std.proofs.Common.{length, ap, sym, ◌∙◌, map}
+use Rattle.std.proofs.Common.{length, ap, sym, ◌∙◌}
 use Rattle.std.proofs.lemmas.List.{length-map}
 use Rattle.order_labels.specs.Chain.{link_at, id_of, slots_of}
 use Rattle.order_labels.proofs.Placing.{slots_len}

@@ -1,4 +1,4 @@
-use Rattle.std.proofs.Common.{◌≡◌, ◌∙◌, nat_eq, sym, subst, ap}
+use Rattle.std.proofs.Common.{◌∙◌, sym, subst, ap}
 use Rattle.order_labels.specs.Lists.{IsIn, IsFollowed}
 use Rattle.order_labels.specs.Chain.{link_at}
 use Rattle.order_labels.specs.Labels.{id_at}
@@ -15,4 +15,4 @@ returns c =
     let (i, is) = c.self.invariant.finds.only c.args.id c.find-at.result c.find-at.ensures in
     subst (λ o. IsFollowed c.args.id c.args.self.now.ids o) (sym (c.id_of.ensures ∙ ap (λ k. id_at l k.next.0) c.look.ensures))
     (subst (λ y. IsFollowed y c.args.self.now.ids (id_at l (l c.find-at.result.0).next.0)) is
-        (followed l c.self.inside.count c.self.invariant.order c.args.self.now.ids (ap (λ v. v.ids) c.self.view_is) c.find-at.result.0 i))
+    (followed l c.self.inside.count c.self.invariant.order c.args.self.now.ids (ap (λ v. v.ids) c.self.view_is) c.find-at.result.0 i))

@@ -1,4 +1,4 @@
-use Rattle.std.proofs.Common.{◌≡◌, ◌∙◌, ◌∷◌, ◌++◌, [], nat_eq, sym, subst, ap, refl, arith}
+use Rattle.std.proofs.Common.{◌∙◌, ◌∷◌, ◌++◌, [], subst, ap, refl, arith}
 use Rattle.order_labels.specs.Lists.{IsIn}
 use Rattle.order_labels.specs.Chain.{link_at}
 use Rattle.order_labels.proofs.Positions.{placed_head}

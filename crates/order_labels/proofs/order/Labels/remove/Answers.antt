@@ -1,4 +1,4 @@
-use Rattle.std.proofs.Common.{◌≡◌, ◌∙◌, ◌+◌, ◌-◌, ◌<◌, nat_eq, None, sym, subst, ap, refl, arith}
+use Rattle.std.proofs.Common.{◌≡◌, ◌∙◌, ◌+◌, ◌-◌, nat_eq, sym, subst, ap, arith}
 use Rattle.std.specs.HashMap.{get as get_slot}
 use Rattle.order_labels.specs.Lists.{IsIn, TakesOut}
 use Rattle.order_labels.specs.Chain.{link_at, slots_of, IsOrder}
@@ -63,4 +63,4 @@ returns-clause-taken c =
     let e : n - 1 + 1 ≡ n = omega (arith, slots_len l n, some_in c.find-at.result.0 (slots_of l n) i) in
     subst (λ v. TakesOut c.args.id v.ids now) c.self.view_is
     (subst (λ k. TakesOut c.args.id (ids_of l k) now) e
-        (subst (λ y. TakesOut y (ids_of l (n - 1 + 1)) now) is (take_ids l (link_at c.take.new.links) (n - 1) c.find-at.result.0 c.take.ensures.takes)))
+    (subst (λ y. TakesOut y (ids_of l (n - 1 + 1)) now) is (take_ids l (link_at c.take.new.links) (n - 1) c.find-at.result.0 c.take.ensures.takes)))

@@ -1,4 +1,4 @@
-use Rattle.std.proofs.Common.{◌≡◌, ◌∙◌, ◌+◌, sym, subst, ap, refl, arith}
+use Rattle.std.proofs.Common.{refl, arith}
 use Rattle.order_labels.proofs.Keeping.{with_room}
 use Rattle.order_labels.proofs.order.Labels.reserve.Goals as goal
 
