@@ -1,0 +1,12 @@
+pub mod Writes
+pub mod Lists
+pub mod Chains
+pub mod Inserting
+pub mod Removing
+pub mod Positions
+pub mod Stretches
+pub mod Levels
+pub mod Spreading
+pub mod Placing
+pub mod Seen
+pub mod Keeping
