@@ -1,0 +1,69 @@
+//! Links from node to node.
+
+ghost use Rattle.std.specs.Prelude.{◌≡◌, ◌≢◌, ◌+◌, ◌<◌, ◌≤◌, ℕ, None, Some, IsSome, OnOk, IfOk, IfSome};
+ghost use Rattle.indexmap.specs.IndexMap.{get, spare};
+ghost use Rattle.use_lists.specs.Nodes.{same, link_at, no_link, Puts};
+
+use crate::nodes::{Link, Node};
+use mlir_tree::value::Val;
+use indexmap::IndexMap;
+
+/// What a node leads to; to itself, if it has no link.
+pub fn look(map: &IndexMap<Node, Link>, at: Node) -> Link
+    ensures { result ≡ link_at map.now at }
+{
+    match map.get(&at) {
+        Some(link) => *link,
+        None => Link {
+            prev: at,
+            next: at,
+            owner: owner_of(at),
+            count: 0,
+        },
+    }
+}
+
+fn owner_of(at: Node) -> Val
+    ensures { result ≡ (no_link at).owner }
+{
+    match at {
+        Node::Head(v) => v,
+        Node::Use(_, _) => Val::Res(0, 0),
+    }
+}
+
+/// Writes a link.
+pub fn put(map: &mut IndexMap<Node, Link>, at: Node, link: Link)
+    requires room { 0 < spare map.old }
+    ensures puts { Puts (link_at map.old) (link_at map.new) at link }
+    ensures room { spare map.old ≤ spare map.new + 1 }
+    ensures there { IsSome (get same map.new at) }
+    ensures still { (y : Node) → IsSome (get same map.old y) → IsSome (get same map.new y) }
+{
+    match map.insert(at, link) {
+        Ok(_) => {}
+        Err(_) => unreachable!(),
+    }
+}
+
+/// Writes a link that is there.
+pub fn set(map: &mut IndexMap<Node, Link>, at: Node, link: Link)
+    requires there { IsSome (get same map.old at) }
+    ensures puts { Puts (link_at map.old) (link_at map.new) at link }
+    ensures room { spare map.old ≤ spare map.new }
+    ensures still { (y : Node) → IsSome (get same map.old y) → IsSome (get same map.new y) }
+{
+    match map.get_mut(&at) {
+        Some(place) => *place = link,
+        None => unreachable!(),
+    }
+}
+
+/// Takes a link out.
+pub fn forget(map: &mut IndexMap<Node, Link>, at: Node)
+    ensures puts { Puts (link_at map.old) (link_at map.new) at (no_link at) }
+    ensures room { spare map.old ≤ spare map.new }
+    ensures still { (y : Node) → y ≢ at → get same map.new y ≡ get same map.old y }
+{
+    let _ = map.swap_remove(&at);
+}

@@ -1,0 +1,332 @@
+//! The uses of each value.
+
+ghost use Rattle.std.specs.Prelude.{◌≡◌, ◌≢◌, ◌+◌, ◌<◌, ◌≤◌, ℕ, [], ◌∷◌, ◌++◌, None, Some, IsSome, length, OnOk, IfOk, IfSome, slice_get};
+ghost use Rattle.indexmap.specs.IndexMap.{get, spare as room_of};
+ghost use Rattle.mlir_tree.specs.declared.value.Val.{Val as Value};
+ghost use Rattle.use_lists.specs.declared.nodes.Node.{Node as Place};
+ghost use Rattle.use_lists.specs.Chain.{walk, IsIn, IsApart, TakesOut, IsFollowed};
+ghost use Rattle.use_lists.specs.Nodes.{same, link_at};
+ghost use Rattle.use_lists.specs.Rings.{uses_in, use_at, Appends, Cuts, Renames, Joins, AreRings, nodes_of, IsUse, count_of, owner_of, next_of, prev_of};
+
+use crate::links::{forget, look, put, set};
+use crate::nodes::{Link, Node};
+use mlir_tree::value::Val;
+use indexmap::IndexMap;
+use std::alloc::{AllocError, Global};
+use std::marker::Model;
+
+/// For each value its uses, each a row and a place.
+#[derive(Drop)]
+pub struct Uses {
+    links: IndexMap<Node, Link>,
+    spare: usize,
+}
+
+impl Model for Uses {
+    ghost use Rattle.std.specs.Prelude.{◌*◌, ◌≤◌};
+    ghost use Rattle.indexmap.specs.IndexMap.{spare as room_of};
+    ghost use Rattle.use_lists.specs.Nodes.{link_at};
+    ghost use Rattle.use_lists.specs.Rings.{Lists, AreRings};
+
+    ghost Value = { Lists };
+
+    ghost view = { λ s. record { entries = s.links.entries; spare = s.spare } };
+
+    ghost invariant = { λ s. AreRings (link_at s.links) × (3 * s.spare ≤ room_of s.links) };
+}
+
+// Puts a use last.
+fn append(links: &mut IndexMap<Node, Link>, v: Val, row: u32, place: u16)
+    requires room { 3 ≤ room_of links.old }
+    requires few { count_of (link_at links.old) (Node.Head v) + 1 < 4294967296 }
+    requires fresh { prev_of (link_at links.old) (Node.Head v) ≢ Node.Use row place }
+    ensures appends { Appends (link_at links.old) (link_at links.new) v (Node.Use row place) }
+    ensures room { room_of links.old ≤ room_of links.new + 3 }
+{
+    let head = Node::Head(v);
+    let new = Node::Use(row, place);
+    let last = look(links, head).prev;
+    put(
+        links,
+        new,
+        Link {
+            prev: last,
+            next: head,
+            owner: v,
+            count: 0,
+        },
+    );
+    let before = look(links, last);
+    put(
+        links,
+        last,
+        Link {
+            prev: before.prev,
+            next: new,
+            owner: before.owner,
+            count: before.count,
+        },
+    );
+    let after = look(links, head);
+    put(
+        links,
+        head,
+        Link {
+            prev: new,
+            next: after.next,
+            owner: after.owner,
+            count: after.count + 1,
+        },
+    );
+}
+
+// Gives the nodes after a head another owner.
+fn rename(links: &mut IndexMap<Node, Link>, head: Node, n: u32, to: Val)
+    requires there { (y : Place) → IsIn y (walk (next_of (link_at links.old)) n head) → IsSome (get same links.old y) }
+    ensures renames { Renames (link_at links.old) (link_at links.new) (walk (next_of (link_at links.old)) n head) to }
+    ensures room { room_of links.old ≤ room_of links.new }
+    ensures still { (y : Place) → IsSome (get same links.old y) → IsSome (get same links.new y) }
+{
+    let mut at = head;
+    for _turn in 0..n {
+        at = look(links, at).next;
+        let here = look(links, at);
+        set(
+            links,
+            at,
+            Link {
+                prev: here.prev,
+                next: here.next,
+                owner: to,
+                count: here.count,
+            },
+        );
+    }
+}
+
+// Puts the ring of one head behind that of another.
+fn splice(links: &mut IndexMap<Node, Link>, from: Val, to: Val)
+    requires room { 1 ≤ room_of links.old }
+    requires first { IsSome (get same links.old (next_of (link_at links.old) (Node.Head from))) }
+    requires last { IsSome (get same links.old (prev_of (link_at links.old) (Node.Head from))) }
+    requires end { prev_of (link_at links.old) (Node.Head to) ≢ Node.Head to → IsSome (get same links.old (prev_of (link_at links.old) (Node.Head to))) }
+    requires few { count_of (link_at links.old) (Node.Head to) + count_of (link_at links.old) (Node.Head from) < 4294967296 }
+    requires differ { from ≢ to }
+    requires first_use { IsUse (next_of (link_at links.old) (Node.Head from)) }
+    requires last_use { IsUse (prev_of (link_at links.old) (Node.Head from)) }
+    requires not_end { prev_of (link_at links.old) (Node.Head to) ≢ prev_of (link_at links.old) (Node.Head from) }
+    requires not_from { prev_of (link_at links.old) (Node.Head to) ≢ Node.Head from }
+    ensures joins { Joins (link_at links.old) (link_at links.new) from to }
+    ensures room { room_of links.old ≤ room_of links.new + 1 }
+{
+    let f = look(links, Node::Head(from));
+    let t = look(links, Node::Head(to));
+    put(
+        links,
+        Node::Head(to),
+        Link {
+            prev: f.prev,
+            next: t.next,
+            owner: t.owner,
+            count: t.count + f.count,
+        },
+    );
+    let end = look(links, t.prev);
+    set(
+        links,
+        t.prev,
+        Link {
+            prev: end.prev,
+            next: f.next,
+            owner: end.owner,
+            count: end.count,
+        },
+    );
+    let first = look(links, f.next);
+    set(
+        links,
+        f.next,
+        Link {
+            prev: t.prev,
+            next: first.next,
+            owner: first.owner,
+            count: first.count,
+        },
+    );
+    let last = look(links, f.prev);
+    set(
+        links,
+        f.prev,
+        Link {
+            prev: last.prev,
+            next: Node::Head(to),
+            owner: last.owner,
+            count: last.count,
+        },
+    );
+    forget(links, Node::Head(from));
+}
+
+// The use of a node.
+fn use_behind(at: Node) -> Option<(u32, u16)>
+    ensures { result ≡ use_at at }
+{
+    match at {
+        Node::Head(_) => None,
+        Node::Use(row, place) => Some((row, place)),
+    }
+}
+
+// Takes a use out.
+fn cut(links: &mut IndexMap<Node, Link>, at: Node)
+    requires before { IsSome (get same links.old (prev_of (link_at links.old) at)) }
+    requires after { IsSome (get same links.old (next_of (link_at links.old) at)) }
+    requires head { IsSome (get same links.old (Node.Head (owner_of (link_at links.old) at))) }
+    requires some { 0 < count_of (link_at links.old) (Node.Head (owner_of (link_at links.old) at)) }
+    requires not_before { prev_of (link_at links.old) at ≢ at }
+    requires not_after { next_of (link_at links.old) at ≢ at }
+    requires a_use { IsUse at }
+    ensures cuts { Cuts (link_at links.old) (link_at links.new) (owner_of (link_at links.old) at) at }
+    ensures room { room_of links.old ≤ room_of links.new }
+{
+    let Link {
+        prev,
+        next,
+        owner,
+        count: _,
+    } = look(links, at);
+    let before = look(links, prev);
+    set(
+        links,
+        prev,
+        Link {
+            prev: before.prev,
+            next,
+            owner: before.owner,
+            count: before.count,
+        },
+    );
+    let after = look(links, next);
+    set(
+        links,
+        next,
+        Link {
+            prev,
+            next: after.next,
+            owner: after.owner,
+            count: after.count,
+        },
+    );
+    let head = look(links, Node::Head(owner));
+    set(
+        links,
+        Node::Head(owner),
+        Link {
+            prev: head.prev,
+            next: head.next,
+            owner: head.owner,
+            count: head.count - 1,
+        },
+    );
+    forget(links, at);
+}
+
+impl Uses {
+    /// No use is there.
+    pub fn new(alloc: Global) -> Self
+        ensures uses { (v : Value) → uses_in result v ≡ [] }
+        ensures spare { result.spare ≡ 0 }
+    {
+        Uses {
+            links: IndexMap::new(alloc),
+            spare: 0,
+        }
+    }
+
+    /// No use of a value is there twice.
+    pub fn apart(&self)
+        ensures { (v : Value) → IsApart (uses_in self.now v) }
+    {
+        let _ = &self.links;
+    }
+
+    /// Adds a use, last.
+    pub fn link(&mut self, v: Val, row: u32, place: u16)
+        requires absent { (w : Value) → ¬ IsIn (row, place) (uses_in self.old w) }
+        requires room { 0 < self.old.spare }
+        requires few { length (uses_in self.old v) < 4294967295 }
+        ensures linked { uses_in self.new v ≡ uses_in self.old v ++ (row, place) ∷ [] }
+        ensures others { (w : Value) → w ≢ v → uses_in self.new w ≡ uses_in self.old w }
+        ensures spare { self.new.spare + 1 ≡ self.old.spare }
+    {
+        append(&mut self.links, v, row, place);
+        self.spare -= 1;
+    }
+
+    /// Takes a use out.
+    pub fn unlink(&mut self, row: u32, place: u16)
+        requires there { (v : Value) × IsIn (row, place) (uses_in self.old v) }
+        ensures taken { (v : Value) → IsIn (row, place) (uses_in self.old v) → TakesOut (row, place) (uses_in self.old v) (uses_in self.new v) }
+        ensures others { (w : Value) → ¬ IsIn (row, place) (uses_in self.old w) → uses_in self.new w ≡ uses_in self.old w }
+        ensures spare { self.new.spare ≡ self.old.spare }
+    {
+        cut(&mut self.links, Node::Use(row, place));
+    }
+
+    /// Hands all uses of a value to another one, behind those that it has.
+    pub fn move_all(&mut self, from: Val, to: Val)
+        requires differ { from ≢ to }
+        requires room { 0 < self.old.spare }
+        requires few { length (uses_in self.old to) + length (uses_in self.old from) < 4294967296 }
+        ensures moved { uses_in self.new to ≡ uses_in self.old to ++ uses_in self.old from }
+        ensures none { uses_in self.new from ≡ [] }
+        ensures others { (w : Value) → w ≢ from → w ≢ to → uses_in self.new w ≡ uses_in self.old w }
+        ensures spare { self.old.spare ≤ self.new.spare + 1 }
+    {
+        let n = look(&self.links, Node::Head(from)).count;
+        if n == 0 {
+            return;
+        }
+        rename(&mut self.links, Node::Head(from), n, to);
+        splice(&mut self.links, from, to);
+        self.spare -= 1;
+    }
+
+    /// Makes room for `n` uses more.
+    pub fn reserve(&mut self, n: usize) -> Result<(), AllocError>
+        ensures uses { (v : Value) → uses_in self.new v ≡ uses_in self.old v }
+        ensures room { OnOk result (n ≤ self.new.spare) }
+        ensures spare { self.old.spare ≤ self.new.spare }
+    {
+        if n > usize::MAX / 3 {
+            return Err(AllocError);
+        }
+        self.links.reserve(3 * n)?;
+        if self.spare < n {
+            self.spare = n;
+        }
+        Ok(())
+    }
+
+    /// The first use of a value.
+    pub fn first(&self, v: Val) -> Option<(u32, u16)>
+        ensures { result ≡ slice_get (uses_in self.now v) 0 }
+    {
+        use_behind(look(&self.links, Node::Head(v)).next)
+    }
+
+    /// The use after one.
+    pub fn next_use(&self, row: u32, place: u16) -> Option<(u32, u16)>
+        requires there { (v : Value) × IsIn (row, place) (uses_in self.now v) }
+        ensures { (v : Value) → IsIn (row, place) (uses_in self.now v) → IsFollowed (row, place) (uses_in self.now v) result }
+    {
+        use_behind(look(&self.links, Node::Use(row, place)).next)
+    }
+
+    /// How many uses a value has.
+    pub fn count(&self, v: Val) -> u32
+        ensures { result ≡ length (uses_in self.now v) }
+    {
+        look(&self.links, Node::Head(v)).count
+    }
+}
