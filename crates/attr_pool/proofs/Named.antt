@@ -1,17 +1,16 @@
 -- Names are found in a map by their bytes as they stand in the list of names.
-use Rattle.std.proofs.Common.{◌≡◌, ℕ, zero, suc, Bool, true, false, cond, List, [], ◌∷◌, ◌++◌, refl, ap, sym, subst, ◌∙◌, inl, inr, true≢false, ◌⊎◌, ◌||◌, ap₂, if◌then◌else◌, slice_get, is_some, length, Some, None, Option}
+use Rattle.std.proofs.Common.{◌≡◌, ℕ, zero, suc, Bool, true, false, cond, List, [], ◌∷◌, ◌++◌, refl, ap, sym, subst, ◌∙◌, inr, true≢false, ap₂, slice_get, is_some, length, Some, None, Option}
 use Rattle.std.specs.Prelude.{Vec}
 use Rattle.std.specs.declared.alloc.Global.{Global}
 use Rattle.std.specs.Map.{lookup, keys_of}
 use Rattle.std.specs.Str.{bytes_eq}
 use Rattle.std.specs.List.{IsDistinct, AllByRecursion}
 use Rattle.std.proofs.lemmas.Slice.Eq.{bytes_eq-Decides}
-use Rattle.std.proofs.lemmas.Map.Keys.{IsDistinct-head, IsDistinct-tail}
 use Rattle.indexmap.specs.IndexMap.{IndexMap, insert_entry}
 use Rattle.indexmap.proofs.CallerLemmas.{insert_entry-new}
 use Rattle.attr_pool.specs.Lists.{AreApart, IsAbsent, Interns}
 use Rattle.attr_pool.specs.Names.{names_of, AreNamed}
-use Rattle.attr_pool.proofs.Places.{some_same, not_none, at_each, last_place, apart}
+use Rattle.attr_pool.proofs.Places.{some_same, not_none, last_place, apart}
 
 abbrev Entry : Type 0
 Entry = Vec ℕ Global × List ℕ

@@ -1,5 +1,5 @@
 -- Values by their places in a list without repeats.
-use Rattle.std.proofs.Common.{◌≡◌, ℕ, zero, suc, Bool, true, false, List, [], ◌∷◌, ◌++◌, refl, ap, sym, subst, ◌∙◌, inl, inr, true≢false, ◌⊎◌, ◌||◌, ap₂, if◌then◌else◌, slice_get, length, Some, None, Option}
+use Rattle.std.proofs.Common.{◌≡◌, ℕ, zero, suc, Bool, true, false, List, [], ◌∷◌, ◌++◌, refl, ap, sym, subst, ◌∙◌, inl, inr, true≢false, ◌⊎◌, ◌||◌, if◌then◌else◌, slice_get, length, Some, None, Option}
 use Rattle.std.specs.List.{IsDistinct, AllByRecursion, list_any, position}
 use Rattle.std.proofs.lemmas.List.Quantifiers.{position-Some}
 use Rattle.std.proofs.lemmas.Option.{slice_get-get_or}

@@ -1,5 +1,5 @@
 -- The tests of types and attributes are equality.
-use Rattle.std.proofs.Common.{◌≡◌, true, ap}
+use Rattle.std.proofs.Common.{◌≡◌, true}
 use Rattle.std.specs.Ordering.{eq_by_cmp}
 use Rattle.mlir_tree.specs.Tree.{Ty, Attr}
 use Rattle.mlir_tree.specs.Order.{ty_cmp, attr_cmp}

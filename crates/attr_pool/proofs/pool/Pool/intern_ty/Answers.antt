@@ -1,4 +1,4 @@
-use Rattle.std.proofs.Common.{subst, sym, ap, ◌∙◌, ◌++◌, ◌∷◌}
+use Rattle.std.proofs.Common.{subst, sym}
 use Rattle.std.specs.Ordering.{eq_by_cmp}
 use Rattle.mlir_tree.specs.Order.{ty_cmp}
 use Rattle.attr_pool.specs.Lists.{Interns}
