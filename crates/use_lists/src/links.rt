@@ -6,10 +6,15 @@ ghost use Rattle.use_lists.specs.Nodes.{same, link_at, no_link, Puts};
 
 use crate::nodes::{Link, Node};
 use mlir_tree::value::Val;
+use crate::hashing::NodeHasher;
 use indexmap::IndexMap;
+use std::hash::BuildHasherDefault;
+
+/// The links of nodes.
+pub type Links = IndexMap<Node, Link, BuildHasherDefault<NodeHasher>>;
 
 /// What a node leads to; to itself, if it has no link.
-pub fn look(map: &IndexMap<Node, Link>, at: Node) -> Link
+pub fn look(map: &Links, at: Node) -> Link
     ensures { result ≡ link_at map.now at }
 {
     match map.get(&at) {
@@ -33,7 +38,7 @@ fn owner_of(at: Node) -> Val
 }
 
 /// Writes a link.
-pub fn put(map: &mut IndexMap<Node, Link>, at: Node, link: Link)
+pub fn put(map: &mut Links, at: Node, link: Link)
     requires room { 0 < spare map.old }
     ensures puts { Puts (link_at map.old) (link_at map.new) at link }
     ensures room { spare map.old ≤ spare map.new + 1 }
@@ -47,7 +52,7 @@ pub fn put(map: &mut IndexMap<Node, Link>, at: Node, link: Link)
 }
 
 /// Writes a link that is there.
-pub fn set(map: &mut IndexMap<Node, Link>, at: Node, link: Link)
+pub fn set(map: &mut Links, at: Node, link: Link)
     requires there { IsSome (get same map.old at) }
     ensures puts { Puts (link_at map.old) (link_at map.new) at link }
     ensures room { spare map.old ≤ spare map.new }
@@ -60,7 +65,7 @@ pub fn set(map: &mut IndexMap<Node, Link>, at: Node, link: Link)
 }
 
 /// Takes a link out.
-pub fn forget(map: &mut IndexMap<Node, Link>, at: Node)
+pub fn forget(map: &mut Links, at: Node)
     ensures puts { Puts (link_at map.old) (link_at map.new) at (no_link at) }
     ensures room { spare map.old ≤ spare map.new }
     ensures still { (y : Node) → y ≢ at → get same map.new y ≡ get same map.old y }

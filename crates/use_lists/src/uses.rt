@@ -8,17 +8,17 @@ ghost use Rattle.use_lists.specs.Chain.{walk, IsIn, IsApart, TakesOut, IsFollowe
 ghost use Rattle.use_lists.specs.Nodes.{same, link_at};
 ghost use Rattle.use_lists.specs.Rings.{uses_in, use_at, Appends, Cuts, Renames, Joins, AreRings, nodes_of, IsUse, count_of, owner_of, next_of, prev_of};
 
-use crate::links::{forget, look, put, set};
+use crate::links::{Links, forget, look, put, set};
 use crate::nodes::{Link, Node};
 use mlir_tree::value::Val;
-use indexmap::IndexMap;
 use std::alloc::{AllocError, Global};
+use std::hash::BuildHasherDefault;
 use std::marker::Model;
 
 /// For each value its uses, each a row and a place.
 #[derive(Drop)]
 pub struct Uses {
-    links: IndexMap<Node, Link>,
+    links: Links,
     spare: usize,
 }
 
@@ -36,7 +36,7 @@ impl Model for Uses {
 }
 
 // Puts a use last.
-fn append(links: &mut IndexMap<Node, Link>, v: Val, row: u32, place: u16)
+fn append(links: &mut Links, v: Val, row: u32, place: u16)
     requires room { 3 ≤ room_of links.old }
     requires few { count_of (link_at links.old) (Node.Head v) + 1 < 4294967296 }
     requires fresh { prev_of (link_at links.old) (Node.Head v) ≢ Node.Use row place }
@@ -81,7 +81,7 @@ fn append(links: &mut IndexMap<Node, Link>, v: Val, row: u32, place: u16)
 }
 
 // Gives the nodes after a head another owner.
-fn rename(links: &mut IndexMap<Node, Link>, head: Node, n: u32, to: Val)
+fn rename(links: &mut Links, head: Node, n: u32, to: Val)
     requires there { (y : Place) → IsIn y (walk (next_of (link_at links.old)) n head) → IsSome (get same links.old y) }
     ensures renames { Renames (link_at links.old) (link_at links.new) (walk (next_of (link_at links.old)) n head) to }
     ensures room { room_of links.old ≤ room_of links.new }
@@ -105,7 +105,7 @@ fn rename(links: &mut IndexMap<Node, Link>, head: Node, n: u32, to: Val)
 }
 
 // Puts the ring of one head behind that of another.
-fn splice(links: &mut IndexMap<Node, Link>, from: Val, to: Val)
+fn splice(links: &mut Links, from: Val, to: Val)
     requires room { 1 ≤ room_of links.old }
     requires first { IsSome (get same links.old (next_of (link_at links.old) (Node.Head from))) }
     requires last { IsSome (get same links.old (prev_of (link_at links.old) (Node.Head from))) }
@@ -178,7 +178,7 @@ fn use_behind(at: Node) -> Option<(u32, u16)>
 }
 
 // Takes a use out.
-fn cut(links: &mut IndexMap<Node, Link>, at: Node)
+fn cut(links: &mut Links, at: Node)
     requires before { IsSome (get same links.old (prev_of (link_at links.old) at)) }
     requires after { IsSome (get same links.old (next_of (link_at links.old) at)) }
     requires head { IsSome (get same links.old (Node.Head (owner_of (link_at links.old) at))) }
@@ -238,7 +238,7 @@ impl Uses {
         ensures spare { result.spare ≡ 0 }
     {
         Uses {
-            links: IndexMap::new(alloc),
+            links: Links::with_hasher(alloc, BuildHasherDefault::new()),
             spare: 0,
         }
     }
