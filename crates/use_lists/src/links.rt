@@ -4,10 +4,10 @@ ghost use Rattle.std.specs.Prelude.{◌≡◌, ◌≢◌, ◌+◌, ◌<◌, ◌�
 ghost use Rattle.indexmap.specs.IndexMap.{get, spare};
 ghost use Rattle.use_lists.specs.Nodes.{same, link_at, no_link, Puts};
 
-use crate::nodes::{Link, Node};
-use mlir_tree::value::Val;
 use crate::hashing::NodeHasher;
+use crate::nodes::{Link, Node};
 use indexmap::IndexMap;
+use mlir_tree::value::Val;
 use std::hash::BuildHasherDefault;
 
 /// The links of nodes.

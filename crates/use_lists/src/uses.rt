@@ -15,7 +15,10 @@ use std::alloc::{AllocError, Global};
 use std::hash::BuildHasherDefault;
 use std::marker::Model;
 
-/// For each value its uses, each a row and a place.
+/// For each value its uses, each a row and an operand place of it (MLIR, "Understanding the IR Structure": use lists).
+///
+/// The uses of a value are a ring through its head: a node each, found by its row and place. A value that was never used has
+/// the empty list. `spare` uses more can be linked without memory.
 #[derive(Drop)]
 pub struct Uses {
     links: Links,
@@ -232,7 +235,7 @@ fn cut(links: &mut Links, at: Node)
 }
 
 impl Uses {
-    /// No use is there.
+    /// No value has a use, and nothing is spare. It takes no memory.
     pub fn new(alloc: Global) -> Self
         ensures uses { (v : Value) → uses_in result v ≡ [] }
         ensures spare { result.spare ≡ 0 }
@@ -243,14 +246,14 @@ impl Uses {
         }
     }
 
-    /// No use of a value is there twice.
+    /// No value has a use twice. It does nothing.
     pub fn apart(&self)
         ensures { (v : Value) → IsApart (uses_in self.now v) }
     {
         let _ = &self.links;
     }
 
-    /// Adds a use, last.
+    /// Adds a use of a value behind those that it has. It takes no memory: one spare is used up.
     pub fn link(&mut self, v: Val, row: u32, place: u16)
         requires absent { (w : Value) → ¬ IsIn (row, place) (uses_in self.old w) }
         requires room { 0 < self.old.spare }
@@ -263,7 +266,7 @@ impl Uses {
         self.spare -= 1;
     }
 
-    /// Takes a use out.
+    /// Takes a use out. It takes no memory.
     pub fn unlink(&mut self, row: u32, place: u16)
         requires there { (v : Value) × IsIn (row, place) (uses_in self.old v) }
         ensures taken { (v : Value) → IsIn (row, place) (uses_in self.old v) → TakesOut (row, place) (uses_in self.old v) (uses_in self.new v) }
@@ -273,7 +276,8 @@ impl Uses {
         cut(&mut self.links, Node::Use(row, place));
     }
 
-    /// Hands all uses of a value to another one, behind those that it has.
+    /// Hands all uses of a value to another one, behind those that it has. It takes no memory: one spare may be used up, for the
+    /// head of a value that had none.
     pub fn move_all(&mut self, from: Val, to: Val)
         requires differ { from ≢ to }
         requires room { 0 < self.old.spare }
@@ -292,7 +296,7 @@ impl Uses {
         self.spare -= 1;
     }
 
-    /// Makes room for `n` uses more.
+    /// Makes room for `n` uses more. For want of memory all uses stay.
     pub fn reserve(&mut self, n: usize) -> Result<(), AllocError>
         ensures uses { (v : Value) → uses_in self.new v ≡ uses_in self.old v }
         ensures room { OnOk result (n ≤ self.new.spare) }
@@ -308,14 +312,14 @@ impl Uses {
         Ok(())
     }
 
-    /// The first use of a value.
+    /// The first use of a value: None exactly where it has none.
     pub fn first(&self, v: Val) -> Option<(u32, u16)>
         ensures { result ≡ slice_get (uses_in self.now v) 0 }
     {
         use_behind(look(&self.links, Node::Head(v)).next)
     }
 
-    /// The use after one.
+    /// The use behind one, of the same value: None exactly at the end of its list.
     pub fn next_use(&self, row: u32, place: u16) -> Option<(u32, u16)>
         requires there { (v : Value) × IsIn (row, place) (uses_in self.now v) }
         ensures { (v : Value) → IsIn (row, place) (uses_in self.now v) → IsFollowed (row, place) (uses_in self.now v) result }
