@@ -1,5 +1,5 @@
 -- Nodes and their links.
-use Rattle.std.specs.Prelude.{◌≡◌, ◌≢◌, Bool, Option, Some, None}
+use Rattle.std.specs.Prelude.{◌≡◌, ◌≢◌, ℕ, Bool, Option, Some, None}
 use Rattle.indexmap.specs.IndexMap.{get, IndexMap}
 use Rattle.mlir_tree.specs.declared.value.Val.TheVariants.{Res}
 use Rattle.use_lists.specs.declared.nodes.Node.{Node}
@@ -23,6 +23,15 @@ link_or x (Some k) = k
 -- what a node leads to
 abbrev pub link_at : {S : Type 0} → IndexMap Node Link S → Node → Link
 link_at m x = link_or x (get same m x)
+
+abbrev pub with_next : Link → Node → Link
+with_next k x = record { prev = k.prev; next = x; owner = k.owner; count = k.count }
+
+abbrev pub with_prev : Link → Node → Link
+with_prev k x = record { prev = x; next = k.next; owner = k.owner; count = k.count }
+
+abbrev pub with_count : Link → ℕ → Link
+with_count k n = record { prev = k.prev; next = k.next; owner = k.owner; count = n }
 
 -- one link is written
 pub record Puts (old new : Node → Link) (at : Node) (link : Link) : Type 0 where

@@ -1,8 +1,8 @@
 //! Links from node to node.
 
-ghost use Rattle.std.specs.Prelude.{◌≡◌, ◌≢◌, ◌+◌, ◌<◌, ◌≤◌, ℕ, None, Some, IsSome, OnOk, IfOk, IfSome};
+ghost use Rattle.std.specs.Prelude.{◌≡◌, ◌≢◌, ◌+◌, ◌-◌, ◌<◌, ◌≤◌, ℕ, None, Some, IsSome, OnOk, IfOk, IfSome};
 ghost use Rattle.indexmap.specs.IndexMap.{get, spare};
-ghost use Rattle.use_lists.specs.Nodes.{same, link_at, no_link, Puts};
+ghost use Rattle.use_lists.specs.Nodes.{same, link_at, no_link, with_next, with_prev, with_count, Puts};
 
 use crate::hashing::NodeHasher;
 use crate::nodes::{Link, Node};
@@ -60,6 +60,46 @@ pub fn set(map: &mut Links, at: Node, link: Link)
 {
     match map.get_mut(&at) {
         Some(place) => *place = link,
+        None => unreachable!(),
+    }
+}
+
+/// Writes the next node of one that has a link.
+pub fn set_next(map: &mut Links, at: Node, next: Node)
+    requires there { IsSome (get same map.old at) }
+    ensures puts { Puts (link_at map.old) (link_at map.new) at (with_next (link_at map.old at) next) }
+    ensures room { spare map.old ≤ spare map.new }
+    ensures still { (y : Node) → IsSome (get same map.old y) → IsSome (get same map.new y) }
+{
+    match map.get_mut(&at) {
+        Some(place) => place.next = next,
+        None => unreachable!(),
+    }
+}
+
+/// Writes the previous node of one that has a link.
+pub fn set_prev(map: &mut Links, at: Node, prev: Node)
+    requires there { IsSome (get same map.old at) }
+    ensures puts { Puts (link_at map.old) (link_at map.new) at (with_prev (link_at map.old at) prev) }
+    ensures room { spare map.old ≤ spare map.new }
+    ensures still { (y : Node) → IsSome (get same map.old y) → IsSome (get same map.new y) }
+{
+    match map.get_mut(&at) {
+        Some(place) => place.prev = prev,
+        None => unreachable!(),
+    }
+}
+
+/// Lowers the number of a node that has a link.
+pub fn count_down(map: &mut Links, at: Node)
+    requires there { IsSome (get same map.old at) }
+    requires some { 0 < (link_at map.old at).count }
+    ensures puts { Puts (link_at map.old) (link_at map.new) at (with_count (link_at map.old at) ((link_at map.old at).count - 1)) }
+    ensures room { spare map.old ≤ spare map.new }
+    ensures still { (y : Node) → IsSome (get same map.old y) → IsSome (get same map.new y) }
+{
+    match map.get_mut(&at) {
+        Some(place) => place.count -= 1,
         None => unreachable!(),
     }
 }

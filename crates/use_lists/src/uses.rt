@@ -8,7 +8,7 @@ ghost use Rattle.use_lists.specs.Chain.{walk, IsIn, IsApart, TakesOut, IsFollowe
 ghost use Rattle.use_lists.specs.Nodes.{same, link_at};
 ghost use Rattle.use_lists.specs.Rings.{uses_in, use_at, Appends, Cuts, Renames, Joins, AreRings, nodes_of, IsUse, count_of, owner_of, next_of, prev_of};
 
-use crate::links::{Links, forget, look, put, set};
+use crate::links::{Links, count_down, forget, look, put, set, set_next, set_prev};
 use crate::nodes::{Link, Node};
 use mlir_tree::value::Val;
 use std::alloc::{AllocError, Global};
@@ -198,39 +198,9 @@ fn cut(links: &mut Links, at: Node)
         owner,
         count: _,
     } = look(links, at);
-    let before = look(links, prev);
-    set(
-        links,
-        prev,
-        Link {
-            prev: before.prev,
-            next,
-            owner: before.owner,
-            count: before.count,
-        },
-    );
-    let after = look(links, next);
-    set(
-        links,
-        next,
-        Link {
-            prev,
-            next: after.next,
-            owner: after.owner,
-            count: after.count,
-        },
-    );
-    let head = look(links, Node::Head(owner));
-    set(
-        links,
-        Node::Head(owner),
-        Link {
-            prev: head.prev,
-            next: head.next,
-            owner: head.owner,
-            count: head.count - 1,
-        },
-    );
+    set_next(links, prev, next);
+    set_prev(links, next, prev);
+    count_down(links, Node::Head(owner));
     forget(links, at);
 }
 
