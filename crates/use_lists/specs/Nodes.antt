@@ -1,5 +1,5 @@
 -- Nodes and their links.
-use Rattle.std.specs.Prelude.{◌≡◌, ◌≢◌, ℕ, Bool, Option, Some, None}
+use Rattle.std.specs.Prelude.{◌≡◌, ◌≢◌, ◌+◌, ℕ, Bool, Option, Some, None}
 use Rattle.indexmap.specs.IndexMap.{get, IndexMap}
 use Rattle.mlir_tree.specs.declared.value.Val.TheVariants.{Res}
 use Rattle.use_lists.specs.declared.nodes.Node.{Node}
@@ -32,6 +32,10 @@ with_prev k x = record { prev = x; next = k.next; owner = k.owner; count = k.cou
 
 abbrev pub with_count : Link → ℕ → Link
 with_count k n = record { prev = k.prev; next = k.next; owner = k.owner; count = n }
+
+-- a head with another last node, which is counted
+abbrev pub with_last : Link → Node → Link
+with_last k x = record { prev = x; next = k.next; owner = k.owner; count = k.count + 1 }
 
 -- one link is written
 pub record Puts (old new : Node → Link) (at : Node) (link : Link) : Type 0 where

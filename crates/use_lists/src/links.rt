@@ -2,7 +2,7 @@
 
 ghost use Rattle.std.specs.Prelude.{◌≡◌, ◌≢◌, ◌+◌, ◌-◌, ◌<◌, ◌≤◌, ℕ, None, Some, IsSome, OnOk, IfOk, IfSome};
 ghost use Rattle.indexmap.specs.IndexMap.{get, spare};
-ghost use Rattle.use_lists.specs.Nodes.{same, link_at, no_link, with_next, with_prev, with_count, Puts};
+ghost use Rattle.use_lists.specs.Nodes.{same, link_at, no_link, with_next, with_prev, with_count, with_last, Puts};
 
 use crate::hashing::NodeHasher;
 use crate::nodes::{Link, Node};
@@ -87,6 +87,52 @@ pub fn set_prev(map: &mut Links, at: Node, prev: Node)
     match map.get_mut(&at) {
         Some(place) => place.prev = prev,
         None => unreachable!(),
+    }
+}
+
+/// Writes the next node of one, which gets a link where it has none.
+pub fn put_next(map: &mut Links, at: Node, next: Node)
+    requires room { 0 < spare map.old }
+    ensures puts { Puts (link_at map.old) (link_at map.new) at (with_next (link_at map.old at) next) }
+    ensures room { spare map.old ≤ spare map.new + 1 }
+{
+    match map.get_mut(&at) {
+        Some(place) => place.next = next,
+        None => put(
+            map,
+            at,
+            Link {
+                prev: at,
+                next,
+                owner: owner_of(at),
+                count: 0,
+            },
+        ),
+    }
+}
+
+/// Writes the last node of a ring into its head, which gets a link where it has none, and counts it.
+pub fn put_last(map: &mut Links, at: Node, last: Node)
+    requires room { 0 < spare map.old }
+    requires few { (link_at map.old at).count + 1 < 4294967296 }
+    ensures puts { Puts (link_at map.old) (link_at map.new) at (with_last (link_at map.old at) last) }
+    ensures room { spare map.old ≤ spare map.new + 1 }
+{
+    match map.get_mut(&at) {
+        Some(place) => {
+            place.prev = last;
+            place.count += 1;
+        }
+        None => put(
+            map,
+            at,
+            Link {
+                prev: last,
+                next: at,
+                owner: owner_of(at),
+                count: 1,
+            },
+        ),
     }
 }
 

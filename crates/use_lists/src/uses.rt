@@ -8,7 +8,9 @@ ghost use Rattle.use_lists.specs.Chain.{walk, IsIn, IsApart, TakesOut, IsFollowe
 ghost use Rattle.use_lists.specs.Nodes.{same, link_at};
 ghost use Rattle.use_lists.specs.Rings.{uses_in, use_at, Appends, Cuts, Renames, Joins, AreRings, nodes_of, IsUse, count_of, owner_of, next_of, prev_of};
 
-use crate::links::{Links, count_down, forget, look, put, set, set_next, set_prev};
+use crate::links::{
+    Links, count_down, forget, look, put, put_last, put_next, set, set_next, set_prev,
+};
 use crate::nodes::{Link, Node};
 use mlir_tree::value::Val;
 use std::alloc::{AllocError, Global};
@@ -59,28 +61,8 @@ fn append(links: &mut Links, v: Val, row: u32, place: u16)
             count: 0,
         },
     );
-    let before = look(links, last);
-    put(
-        links,
-        last,
-        Link {
-            prev: before.prev,
-            next: new,
-            owner: before.owner,
-            count: before.count,
-        },
-    );
-    let after = look(links, head);
-    put(
-        links,
-        head,
-        Link {
-            prev: new,
-            next: after.next,
-            owner: after.owner,
-            count: after.count + 1,
-        },
-    );
+    put_next(links, last, new);
+    put_last(links, head, new);
 }
 
 // Gives the nodes after a head another owner.
