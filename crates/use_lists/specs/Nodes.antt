@@ -1,6 +1,7 @@
 -- Nodes and their links.
 use Rattle.std.specs.Prelude.{◌≡◌, ◌≢◌, ◌+◌, ℕ, Bool, Option, Some, None}
 use Rattle.indexmap.specs.IndexMap.{get, IndexMap}
+use Rattle.mlir_tree.specs.declared.value.Val.{Val}
 use Rattle.mlir_tree.specs.declared.value.Val.TheVariants.{Res}
 use Rattle.use_lists.specs.declared.nodes.Node.{Node}
 use Rattle.use_lists.specs.declared.nodes.Node.TheVariants.{Head, Use}
@@ -32,6 +33,9 @@ with_prev k x = record { prev = x; next = k.next; owner = k.owner; count = k.cou
 
 abbrev pub with_count : Link → ℕ → Link
 with_count k n = record { prev = k.prev; next = k.next; owner = k.owner; count = n }
+
+abbrev pub with_owner : Link → Val → Link
+with_owner k v = record { prev = k.prev; next = k.next; owner = v; count = k.count }
 
 -- a head with another last node, which is counted
 abbrev pub with_last : Link → Node → Link

@@ -2,7 +2,7 @@
 
 ghost use Rattle.std.specs.Prelude.{◌≡◌, ◌≢◌, ◌+◌, ◌-◌, ◌<◌, ◌≤◌, ℕ, None, Some, IsSome, OnOk, IfOk, IfSome};
 ghost use Rattle.indexmap.specs.IndexMap.{get, spare};
-ghost use Rattle.use_lists.specs.Nodes.{same, link_at, no_link, with_next, with_prev, with_count, with_last, Puts};
+ghost use Rattle.use_lists.specs.Nodes.{same, link_at, no_link, with_next, with_prev, with_count, with_last, with_owner, Puts};
 
 use crate::hashing::NodeHasher;
 use crate::nodes::{Link, Node};
@@ -51,15 +51,15 @@ pub fn put(map: &mut Links, at: Node, link: Link)
     }
 }
 
-/// Writes a link that is there.
-pub fn set(map: &mut Links, at: Node, link: Link)
+/// Writes the owner of a node that has a link.
+pub fn set_owner(map: &mut Links, at: Node, owner: Val)
     requires there { IsSome (get same map.old at) }
-    ensures puts { Puts (link_at map.old) (link_at map.new) at link }
+    ensures puts { Puts (link_at map.old) (link_at map.new) at (with_owner (link_at map.old at) owner) }
     ensures room { spare map.old ≤ spare map.new }
     ensures still { (y : Node) → IsSome (get same map.old y) → IsSome (get same map.new y) }
 {
     match map.get_mut(&at) {
-        Some(place) => *place = link,
+        Some(place) => place.owner = owner,
         None => unreachable!(),
     }
 }

@@ -9,7 +9,7 @@ ghost use Rattle.use_lists.specs.Nodes.{same, link_at};
 ghost use Rattle.use_lists.specs.Rings.{uses_in, use_at, Appends, Cuts, Renames, Joins, AreRings, nodes_of, IsUse, count_of, owner_of, next_of, prev_of};
 
 use crate::links::{
-    Links, count_down, forget, look, put, put_last, put_next, set, set_next, set_prev,
+    Links, count_down, forget, look, put, put_last, put_next, set_next, set_owner, set_prev,
 };
 use crate::nodes::{Link, Node};
 use mlir_tree::value::Val;
@@ -75,17 +75,7 @@ fn rename(links: &mut Links, head: Node, n: u32, to: Val)
     let mut at = head;
     for _turn in 0..n {
         at = look(links, at).next;
-        let here = look(links, at);
-        set(
-            links,
-            at,
-            Link {
-                prev: here.prev,
-                next: here.next,
-                owner: to,
-                count: here.count,
-            },
-        );
+        set_owner(links, at, to);
     }
 }
 
@@ -116,39 +106,9 @@ fn splice(links: &mut Links, from: Val, to: Val)
             count: t.count + f.count,
         },
     );
-    let end = look(links, t.prev);
-    set(
-        links,
-        t.prev,
-        Link {
-            prev: end.prev,
-            next: f.next,
-            owner: end.owner,
-            count: end.count,
-        },
-    );
-    let first = look(links, f.next);
-    set(
-        links,
-        f.next,
-        Link {
-            prev: t.prev,
-            next: first.next,
-            owner: first.owner,
-            count: first.count,
-        },
-    );
-    let last = look(links, f.prev);
-    set(
-        links,
-        f.prev,
-        Link {
-            prev: last.prev,
-            next: Node::Head(to),
-            owner: last.owner,
-            count: last.count,
-        },
-    );
+    set_next(links, t.prev, f.next);
+    set_prev(links, f.next, t.prev);
+    set_next(links, f.prev, Node::Head(to));
     forget(links, Node::Head(from));
 }
 
