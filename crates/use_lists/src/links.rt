@@ -95,6 +95,8 @@ pub fn put_next(map: &mut Links, at: Node, next: Node)
     requires room { 0 < spare map.old }
     ensures puts { Puts (link_at map.old) (link_at map.new) at (with_next (link_at map.old at) next) }
     ensures room { spare map.old ≤ spare map.new + 1 }
+    ensures kept { IsSome (get same map.old at) → spare map.old ≤ spare map.new }
+    ensures there { IsSome (get same map.new at) }
 {
     match map.get_mut(&at) {
         Some(place) => place.next = next,
@@ -113,10 +115,11 @@ pub fn put_next(map: &mut Links, at: Node, next: Node)
 
 /// Writes the last node of a ring into its head, which gets a link where it has none, and counts it.
 pub fn put_last(map: &mut Links, at: Node, last: Node)
-    requires room { 0 < spare map.old }
+    requires room { get same map.old at ≡ None → 0 < spare map.old }
     requires few { (link_at map.old at).count + 1 < 4294967296 }
     ensures puts { Puts (link_at map.old) (link_at map.new) at (with_last (link_at map.old at) last) }
     ensures room { spare map.old ≤ spare map.new + 1 }
+    ensures kept { IsSome (get same map.old at) → spare map.old ≤ spare map.new }
 {
     match map.get_mut(&at) {
         Some(place) => {

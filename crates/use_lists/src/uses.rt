@@ -37,16 +37,17 @@ impl Model for Uses {
 
     ghost view = { λ s. record { entries = s.links.entries; spare = s.spare } };
 
-    ghost invariant = { λ s. AreRings (link_at s.links) × (3 * s.spare ≤ room_of s.links) };
+    ghost invariant = { λ s. AreRings (link_at s.links) × (2 * s.spare ≤ room_of s.links) };
 }
 
 // Puts a use last.
 fn append(links: &mut Links, v: Val, row: u32, place: u16)
-    requires room { 3 ≤ room_of links.old }
+    requires room { 2 ≤ room_of links.old }
+    requires end { prev_of (link_at links.old) (Node.Head v) ≢ Node.Head v → IsSome (get same links.old (prev_of (link_at links.old) (Node.Head v))) }
     requires few { count_of (link_at links.old) (Node.Head v) + 1 < 4294967296 }
     requires fresh { prev_of (link_at links.old) (Node.Head v) ≢ Node.Use row place }
     ensures appends { Appends (link_at links.old) (link_at links.new) v (Node.Use row place) }
-    ensures room { room_of links.old ≤ room_of links.new + 3 }
+    ensures room { room_of links.old ≤ room_of links.new + 2 }
 {
     let head = Node::Head(v);
     let new = Node::Use(row, place);
@@ -214,10 +215,10 @@ impl Uses {
         ensures room { OnOk result (n ≤ self.new.spare) }
         ensures spare { self.old.spare ≤ self.new.spare }
     {
-        if n > usize::MAX / 3 {
+        if n > usize::MAX / 2 {
             return Err(AllocError);
         }
-        self.links.reserve(3 * n)?;
+        self.links.reserve(2 * n)?;
         if self.spare < n {
             self.spare = n;
         }
