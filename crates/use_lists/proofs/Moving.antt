@@ -226,3 +226,19 @@ renamed_nodes old mid from to n e r = subst (λ m. Renames old mid (walk (next_o
 pub walked_nodes : (links : Node → Link) (v : Val) (n : ℕ) → n ≡ count_of links (Head v) → (y : Node) → IsIn y (walk (next_of links) n (Head v)) → IsIn y (nodes_of links v)
 unfolding nodes_of
 walked_nodes links v n e y i = subst (λ m. IsIn y (walk (next_of links) m (Head v))) e i
+
+-- The head of a value without uses is forgotten.
+module _ (old new : Node → Link) (rings : AreRings old) (v : Val) (none : count_of old (Head v) ≡ 0) (puts : Puts old new (Head v) (no_link (Head v))) where
+  pub unheaded : (w : Val) → IsRing new w (nodes_of new w) × (nodes_of new w ≡ nodes_of old w)
+  unheaded w = elim (val_cases w v) [
+    | inl e ↦ subst (λ z. IsRing new z (nodes_of new z) × (nodes_of new z ≡ nodes_of old z)) (sym e) here
+    | inr n ↦
+        let apart : (y : Node) → Mine old w y → y ≢ Head v = λ y i q. n (one_owner old rings w v y i (inl q)) in
+        stays old rings new w (λ y i. ap (λ k. k.next) (puts.others y (apart y i))) (λ y i. ap (λ k. k.prev) (puts.others y (apart y i)))
+        (λ y i. ap (λ k. k.owner) (puts.others y (apart y (inr i)))) (ap (λ k. k.count) (puts.others (Head w) (apart (Head w) (inl refl))))
+  ]
+    where
+      here : IsRing new v (nodes_of new v) × (nodes_of new v ≡ nodes_of old v)
+      here =
+          let got = settled new v [] (record { chain = (ap (λ k. k.next) puts.here, ap (λ k. k.prev) puts.here); apart = tt; uses = λ y i. absurd i; owned = λ y i. absurd i }) (ap (λ k. k.count) puts.here) in
+          (got.0, got.1 ∙ sym (no_nodes old v (count_of old (Head v)) refl none))

@@ -123,8 +123,8 @@ fn use_behind(at: Node) -> Option<(u32, u16)>
     }
 }
 
-// Takes a use out.
-fn cut(links: &mut Links, at: Node)
+// Takes a use out, and gives the value that had it.
+fn cut(links: &mut Links, at: Node) -> Val
     requires before { IsSome (get same links.old (prev_of (link_at links.old) at)) }
     requires after { IsSome (get same links.old (next_of (link_at links.old) at)) }
     requires head { IsSome (get same links.old (Node.Head (owner_of (link_at links.old) at))) }
@@ -134,6 +134,7 @@ fn cut(links: &mut Links, at: Node)
     requires a_use { IsUse at }
     ensures cuts { Cuts (link_at links.old) (link_at links.new) (owner_of (link_at links.old) at) at }
     ensures room { room_of links.old ≤ room_of links.new }
+    ensures owner { result ≡ owner_of (link_at links.old) at }
 {
     let Link {
         prev,
@@ -145,6 +146,19 @@ fn cut(links: &mut Links, at: Node)
     set_prev(links, next, prev);
     count_down(links, Node::Head(owner));
     forget(links, at);
+    owner
+}
+
+// Forgets the head of a value without uses.
+fn forget_unused(links: &mut Links, v: Val)
+    requires rings { AreRings (link_at links.old) }
+    ensures rings { AreRings (link_at links.new) }
+    ensures nodes { (w : Value) → nodes_of (link_at links.new) w ≡ nodes_of (link_at links.old) w }
+    ensures room { room_of links.old ≤ room_of links.new }
+{
+    if look(links, Node::Head(v)).count == 0 {
+        forget(links, Node::Head(v));
+    }
 }
 
 impl Uses {
@@ -186,7 +200,8 @@ impl Uses {
         ensures others { (w : Value) → ¬ IsIn (row, place) (uses_in self.old w) → uses_in self.new w ≡ uses_in self.old w }
         ensures spare { self.new.spare ≡ self.old.spare }
     {
-        cut(&mut self.links, Node::Use(row, place));
+        let owner = cut(&mut self.links, Node::Use(row, place));
+        forget_unused(&mut self.links, owner);
     }
 
     /// Hands all uses of a value to another one, behind those that it has. It takes no memory: one spare may be used up, for the
