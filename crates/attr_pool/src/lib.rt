@@ -1,0 +1,4 @@
+//! Keys of types, attributes and names: equal values have one key.
+#![tactic(auto)]
+
+pub mod pool;
