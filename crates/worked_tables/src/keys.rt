@@ -3,7 +3,8 @@
 use attr_pool::pool::Pool;
 use call_answers::Answers;
 use mlir_tree::attr::Attr;
-use mlir_tree::ty::{Sign, Ty};
+use mlir_tree::sign::Sign;
+use mlir_tree::ty::Ty;
 use shared_text::SharedText;
 use std::alloc::AllocError;
 
