@@ -2,7 +2,7 @@
 use Rattle.std.proofs.Common.{◌≡◌, ℕ, List, Result, Ok, sym, ap, ◌∙◌}
 use Rattle.mlir_attributes.specs.declared.fault.ModFault.{ModFault}
 
-ok_or : {A : Type 0} → A → Result A ModFault → A
+abbrev ok_or : {A : Type 0} → A → Result A ModFault → A
 ok_or d (Ok a) = a
 ok_or d e = d
 
