@@ -21,6 +21,7 @@ use pdll_expand::expr::Expr;
 use row_index::index::RowIndex;
 use segment_sizes::segments::{Segment, first_segment, segment_count};
 use segment_sizes::sizes::spelling;
+use sqlite_items::at;
 
 /// Whether an expression stands for several values or types.
 pub fn is_range(kinds: &[Kind], e: Expr) -> bool
@@ -58,7 +59,7 @@ fn is_given_range(given: &[Thing], e: Expr) -> bool
     ensures { result ≡ ranges.is_range (map kind_of (map thing_of given.now)) (expr_of e) }
 {
     match e {
-        Expr::The(x) => match given.get(x) {
+        Expr::The(x) => match at(given, x) {
             Some(t) => matches!(t.seen().kind(), Kind::Values | Kind::Tys),
             None => false,
         },
