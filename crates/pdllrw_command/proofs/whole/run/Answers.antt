@@ -5,6 +5,7 @@ use Rattle.run_model.specs.LogText.{log_text}
 use Rattle.rewrite_model.specs.Expanding.{patterns}
 use Rattle.greedy_driver.specs.Course.{course_of}
 use Rattle.pdllrw_command.specs.Accepted.{AcceptsPatterns, AcceptsModule}
+use Rattle.rewrite_model.specs.declared.run.Order.TheVariants.{First}
 use Rattle.pdllrw_command.specs.Outcome.{Command, Rewrites}
 use Rattle.pdllrw_command.proofs.Outcomes.{refused_words, stopped, patterns_stop, module_stops, shown, stops_since}
 use Rattle.pdllrw_command.proofs.whole.run.Goals as goal
@@ -55,7 +56,7 @@ returns g c =
       is_module = is_module;
       course = course_of run left;
       runs = c.in-Ok-drive_rows.ensures.run;
-      well_formed = λ m reached. c.runs_keep_well_formed.ensures (patterns file) asked.bound rows m c.in-Ok-read_module.ensures.well_formed reached;
+      well_formed = λ m reached. c.runs_keep_well_formed.ensures First (patterns file) asked.bound rows m c.in-Ok-read_module.ensures.well_formed reached;
       ends = refl;
       out_is = refl;
       log_is = refl;
