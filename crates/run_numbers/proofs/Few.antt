@@ -1,5 +1,5 @@
 -- The patterns of an accepted file make few operations.
-use Rattle.std.proofs.Common.{◌≡◌, ◌≤◌, ℕ, Bool, true, false, ◌||◌, List, [], ◌∷◌, arith}
+use Rattle.std.proofs.Common.{◌≡◌, ◌≤◌, ℕ, Bool, true, false, ◌||◌, List, [], ◌∷◌, refl, arith}
 use Rattle.std.specs.Prelude.{nat_lt}
 use Rattle.std.proofs.lemmas.Bool.Decides.{nat_tests}
 use Rattle.pdll_syntax.specs.declared.file.Decl.{Decl}
@@ -15,7 +15,7 @@ use Rattle.run_numbers.specs.Laws.{MakeFew}
 neither : (a b c : Bool) → (a || (b || c)) ≡ false → b ≡ false
 neither true b c e = absurd (cc)
 neither false true c e = absurd (cc)
-neither false false c e = e
+neither false false c e = refl
 
 few_operations : (earlier : List Decl) (p : PatternDecl) → is_too_large earlier (decl.Pattern p) ≡ false → (expanded_size earlier (decl.Pattern p)).operations ≤ 256
 unfolding is_too_large
